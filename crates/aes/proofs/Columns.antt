@@ -1,0 +1,35 @@
+-- Lists of four.
+use mathlib.Core.Path.{_≡_, refl}
+use mathlib.Core.List.{List, [], _∷_}
+use Prim.Native.Nat.{ℕ}
+use native.Mathlib.Omega.{arith}
+use lib.ListN.{length, getD}
+use lib.Bits.{bitXor}
+use Rattle.aes.specs.Field.{xtimeOf}
+use Rattle.aes.specs.Round.{four, mixByte}
+use Rattle.aes.proofs.Each.{each}
+
+-- four equal entries make equal lists
+pub four-equal {ℓ} : {A : Type ℓ} {a b c d a′ b′ c′ d′ : A} → a ≡ a′ → b ≡ b′ → c ≡ c′ → d ≡ d′
+    → _≡_ {A = List A} (a ∷ b ∷ c ∷ d ∷ []) (a′ ∷ b′ ∷ c′ ∷ d′ ∷ [])
+four-equal p q r s = cc
+
+-- a function put at each of four places
+pub four-each : (f : ℕ → ℕ) (xs : List ℕ) → length xs ≡ 4 → each f 4 xs ≡ four (λ r. f (getD xs r 0))
+four-each f [] h = absurd (omega arith)
+four-each f (a ∷ []) h = absurd (omega arith)
+four-each f (a ∷ b ∷ []) h = absurd (omega arith)
+four-each f (a ∷ b ∷ c ∷ []) h = absurd (omega arith)
+four-each f (a ∷ b ∷ c ∷ d ∷ []) h = refl
+four-each f (a ∷ b ∷ c ∷ d ∷ e ∷ xs) h = absurd (omega arith)
+
+-- a column as the code mixes it, with the products by {02} named
+pub mixed : (a : List ℕ) {x0 x1 x2 x3 : ℕ}
+    → x0 ≡ xtimeOf (getD a 0 0) → x1 ≡ xtimeOf (getD a 1 0) → x2 ≡ xtimeOf (getD a 2 0) → x3 ≡ xtimeOf (getD a 3 0)
+    → _≡_ {A = List ℕ}
+    (bitXor (bitXor (bitXor x0 (bitXor x1 (getD a 1 0))) (getD a 2 0)) (getD a 3 0)
+    ∷ bitXor (bitXor (bitXor (getD a 0 0) x1) (bitXor x2 (getD a 2 0))) (getD a 3 0)
+    ∷ bitXor (bitXor (bitXor (getD a 0 0) (getD a 1 0)) x2) (bitXor x3 (getD a 3 0))
+    ∷ bitXor (bitXor (bitXor (bitXor x0 (getD a 0 0)) (getD a 1 0)) (getD a 2 0)) x3 ∷ [])
+    (four (λ r. mixByte r a))
+mixed a p q r s = rw (p, q, r, s)

@@ -1,0 +1,5 @@
+pub mod Outcome
+pub mod Table
+pub mod Each
+pub mod Columns
+pub mod SboxRule

@@ -1,0 +1,4 @@
+pub mod Outcome
+pub mod Field
+pub mod Sbox
+pub mod Round
