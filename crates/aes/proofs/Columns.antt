@@ -15,13 +15,13 @@ pub four-equal {ℓ} : {A : Type ℓ} {a b c d a′ b′ c′ d′ : A} → a �
 four-equal p q r s = cc
 
 -- a function put at each of four places
-pub four-each : (f : ℕ → ℕ) (xs : List ℕ) → length xs ≡ 4 → each f 4 xs ≡ four (λ r. f (getD xs r 0))
-four-each f [] h = absurd (omega arith)
-four-each f (a ∷ []) h = absurd (omega arith)
-four-each f (a ∷ b ∷ []) h = absurd (omega arith)
-four-each f (a ∷ b ∷ c ∷ []) h = absurd (omega arith)
-four-each f (a ∷ b ∷ c ∷ d ∷ []) h = refl
-four-each f (a ∷ b ∷ c ∷ d ∷ e ∷ xs) h = absurd (omega arith)
+pub four-each : {A : Type 0} (d : A) (f : A → A) (xs : List A) → length xs ≡ 4 → each d f 4 xs ≡ four (λ r. f (getD xs r d))
+four-each d f [] h = absurd (omega arith)
+four-each d f (x ∷ []) h = absurd (omega arith)
+four-each d f (x ∷ y ∷ []) h = absurd (omega arith)
+four-each d f (x ∷ y ∷ z ∷ []) h = absurd (omega arith)
+four-each d f (x ∷ y ∷ z ∷ w ∷ []) h = refl
+four-each d f (x ∷ y ∷ z ∷ w ∷ v ∷ xs) h = absurd (omega arith)
 
 -- a column as the code mixes it, with the products by {02} named
 pub mixed : (a : List ℕ) {x0 x1 x2 x3 : ℕ}

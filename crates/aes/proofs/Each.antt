@@ -6,21 +6,21 @@ use native.Mathlib.Nat.{le-of-suc-le-suc, not-suc-le-zero}
 use native.Mathlib.Numerals.{add-one}
 use lib.ListN.{length, getD, set}
 
-module _ (f : ℕ → ℕ) where
-  abbrev pub each : ℕ → List ℕ → List ℕ
+module _ {A : Type 0} (d : A) (f : A → A) where
+  abbrev pub each : ℕ → List A → List A
   each zero xs = xs
   each (suc r) [] = []
   each (suc r) (x ∷ xs) = f x ∷ each r xs
 
-  more : (r : ℕ) (xs : List ℕ) → r < length xs → set (each r xs) r (f (getD (each r xs) r 0)) ≡ each (suc r) xs
+  more : (r : ℕ) (xs : List A) → r < length xs → set (each r xs) r (f (getD (each r xs) r d)) ≡ each (suc r) xs
   more zero (x ∷ xs) h = refl
-  more (suc r) (x ∷ xs) h = ap (λ (l : List ℕ). f x ∷ l) (more r xs (le-of-suc-le-suc h))
+  more (suc r) (x ∷ xs) h = ap (λ (l : List A). f x ∷ l) (more r xs (le-of-suc-le-suc h))
   more r [] h = absurd (not-suc-le-zero h)
 
-  pub each-more : (r : ℕ) (xs : List ℕ) → r < length xs → set (each r xs) r (f (getD (each r xs) r 0)) ≡ each (r + 1) xs
+  pub each-more : (r : ℕ) (xs : List A) → r < length xs → set (each r xs) r (f (getD (each r xs) r d)) ≡ each (r + 1) xs
   each-more r xs h = rw add-one (more r xs h)
 
-  pub each-length : (r : ℕ) (xs : List ℕ) → length (each r xs) ≡ length xs
+  pub each-length : (r : ℕ) (xs : List A) → length (each r xs) ≡ length xs
   each-length zero xs = refl
   each-length (suc r) [] = refl
   each-length (suc r) (x ∷ xs) = ap suc (each-length r xs)

@@ -3,3 +3,4 @@ pub mod Table
 pub mod Each
 pub mod Columns
 pub mod SboxRule
+pub mod Bounds

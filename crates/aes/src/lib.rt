@@ -8,7 +8,7 @@ ghost use Rattle.aes.specs.Round.{four, subBytes, shiftRows, mixByte, mi
 
 mod sbox;
 
-// A loop, so that the S-box has one call site and is put there by the compiler.
+// Steps by column are loops: what has one call site is put there by the compiler, the S-box too.
 fn sub_column(a: [u8; 4]) -> [u8; 4]
     ensures { λ b. ⌜ b ≡ four (λ r. sboxOf (getD a r 0)) ⌝ }
 {
@@ -24,12 +24,14 @@ fn sub_column(a: [u8; 4]) -> [u8; 4]
 fn sub_bytes(s: [[u8; 4]; 4]) -> [[u8; 4]; 4]
     ensures { λ t. ⌜ t ≡ subBytes s ⌝ }
 {
-    [
-        sub_column(s[0]),
-        sub_column(s[1]),
-        sub_column(s[2]),
-        sub_column(s[3]),
-    ]
+    let mut t = s;
+    let mut c = 0;
+    while c < 4 {
+        let next = sub_column(t[c]);
+        t[c] = next;
+        c += 1;
+    }
+    t
 }
 
 fn shift_rows(s: [[u8; 4]; 4]) -> [[u8; 4]; 4]
@@ -71,12 +73,14 @@ fn mix_column(a: [u8; 4]) -> [u8; 4]
 fn mix_columns(s: [[u8; 4]; 4]) -> [[u8; 4]; 4]
     ensures { λ t. ⌜ t ≡ mixColumns s ⌝ }
 {
-    [
-        mix_column(s[0]),
-        mix_column(s[1]),
-        mix_column(s[2]),
-        mix_column(s[3]),
-    ]
+    let mut t = s;
+    let mut c = 0;
+    while c < 4 {
+        let next = mix_column(t[c]);
+        t[c] = next;
+        c += 1;
+    }
+    t
 }
 
 fn add_column(a: [u8; 4], k: [u8; 4]) -> [u8; 4]

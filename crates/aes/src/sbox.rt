@@ -2,7 +2,7 @@
 ghost use mathlib.Core.Path.{_≡_};
 ghost use Rattle.aes.specs.Sbox.{sboxOf};
 
-pub fn sub(x: u8) -> u8
+pub(crate) fn sub(x: u8) -> u8
     ensures { λ r. ⌜ r ≡ sboxOf x ⌝ }
 {
     match x {

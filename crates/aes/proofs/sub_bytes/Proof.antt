@@ -1,23 +1,59 @@
+-- `sub_bytes` meets its contract: after c turns the first c columns are done.
+use mathlib.Core.Path.{_≡_, refl, _∙_, ap}
+use mathlib.Core.List.{List, []}
+use Prim.Native.Nat.{ℕ, _-_, _≤_, _<_}
+use native.Mathlib.Omega.{arith}
+use lib.ListN.{length, getD, set, length-set}
 use borrow.Author.Needs.{needs}
-use Rattle.aes.specs.Round.{subBytes}
-use Rattle.aes.proofs.Columns.{four-equal}
+use Rattle.aes.specs.Sbox.{sboxOf}
+use Rattle.aes.specs.Round.{four, subBytes}
+use Rattle.aes.proofs.Each.{each, each-more}
+use Rattle.aes.proofs.Columns.{four-each}
 use Rattle.aes.proofs.sub_bytes.Statement.{statement}
 use Rattle.aes.proofs.sub_bytes.Tie as tie
 
-returns : tie.Need-returns
+abbrev done : List ℕ → List ℕ
+done a = four (λ r. sboxOf (getD a r 0))
+
+abbrev Inv-loop : tie.InvT-loop
+Inv-loop t₀ c₀ t c = (c ≤ 4) × (length t₀ ≡ 4) × (length t ≡ 4) × (t ≡ each [] done c t₀)
+
+abbrev μ-loop : tie.MeasureT-loop
+μ-loop t₀ c₀ t c = 4 - c
+
+loop-holds : tie.Need-loop-holds Inv-loop μ-loop
+loop-holds c = (search needs, search needs, search needs, refl)
+
+loop-again : tie.Need-loop-again Inv-loop μ-loop
+loop-again c =
+    let at = c .before .before .before .loop in
+    let s = c .before .before .before .before .args .s in (
+      omega arith,
+      at .inv .1,
+      simp length-set (at .inv .2),
+      rw (c .sub-column .ensures, at .inv .3) (each-more [] done (at .c) s (omega arith)),
+    )
+
+returns : tie.Need-returns Inv-loop μ-loop
 unfolding subBytes
-returns c = four-equal (c .before .before .before .before .before .before .sub-column .ensures) (c .before .before .before .before .sub-column2 .ensures) (c .before .before .sub-column3 .ensures) (c .sub-column4 .ensures)
+returns c =
+    let at = c .before .loop in
+    let e : at .c ≡ 4 = omega arith in
+    rw e at (at .inv .3) ∙ four-each [] done (c .before .before .args .s) (at .inv .1)
 
 pub sub-bytes-spec : {M : Type 1} → statement M
 sub-bytes-spec =
     tie.close
     (tie.spec
+    Inv-loop
+    μ-loop
+    loop-holds
+    (λ c. search needs)
     (λ c. search needs)
     (λ c κs. search needs)
     (λ c. search needs)
-    (λ c κs. search needs)
     (λ c. search needs)
-    (λ c κs. search needs)
     (λ c. search needs)
-    (λ c κs. search needs)
+    (λ c. search needs)
+    loop-again
     returns)

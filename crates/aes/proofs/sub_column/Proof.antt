@@ -11,7 +11,7 @@ use Rattle.aes.proofs.sub_column.Statement.{statement}
 use Rattle.aes.proofs.sub_column.Tie as tie
 
 abbrev Inv-loop : tie.InvT-loop
-Inv-loop b₀ r₀ b r = (r ≤ 4) × (length b₀ ≡ 4) × (length b ≡ 4) × (b ≡ each sboxOf r b₀)
+Inv-loop b₀ r₀ b r = (r ≤ 4) × (length b₀ ≡ 4) × (length b ≡ 4) × (b ≡ each 0 sboxOf r b₀)
 
 abbrev μ-loop : tie.MeasureT-loop
 μ-loop b₀ r₀ b r = 4 - r
@@ -25,14 +25,14 @@ loop-again c =
     let e = at .inv .3 in
     let s = c .sub .ensures in
     let n : at .r < length (c .before .before .before .args .a) = omega arith in
-    let m = each-more sboxOf (at .r) (c .before .before .before .args .a) n in
+    let m = each-more 0 sboxOf (at .r) (c .before .before .before .args .a) n in
     (omega arith, at .inv .1, simp length-set (at .inv .2), cc)
 
 returns : tie.Need-returns Inv-loop μ-loop
 returns c =
     let at = c .before .loop in
     let e : at .r ≡ 4 = omega arith in
-    rw e at (at .inv .3) ∙ four-each sboxOf (c .before .before .args .a) (at .inv .1)
+    rw e at (at .inv .3) ∙ four-each 0 sboxOf (c .before .before .args .a) (at .inv .1)
 
 pub sub-column-spec : {M : Type 1} → statement M
 sub-column-spec =

@@ -1,0 +1,86 @@
+use borrow.Author.Needs.{needs}
+use mathlib.Core.Path.{_≡_, refl, ap, _∙_}
+use Prim.Native.Nat.{_+_, _-_, _*_, _≤_}
+use native.Mathlib.Omega.{arith}
+use denote.Ref.{now}
+use mathlib.Core.List.{append-nil}
+use lib.ListN.{length, take, drop}
+use Rattle.compress.proofs.Numbers.{numbers, block-first, run-inside}
+use Rattle.compress.specs.Family.{blockWords}
+use Rattle.compress.specs.Family as table
+use Rattle.compress.specs.Words.{times}
+use Rattle.compress.specs.Expansion.{runOf, expandOf}
+use Rattle.compress.proofs.Growing.{runs-step, runs-all}
+use Rattle.compress.proofs.expansion.expand.Statement.{statement}
+use Rattle.compress.proofs.expansion.expand.Tie as tie
+
+abbrev Inv-loop : tie.InvT-loop
+Inv-loop family w₀ c s runs r₀ w r =
+    (r ≤ runs) × (length w ≡ blockWords family * (table.runs family + 1))
+    × (take (blockWords family * (r + 1)) w ≡ times r (runOf family c s) (take (blockWords family) w₀))
+
+abbrev μ-loop : tie.MeasureT-loop
+μ-loop family w₀ c s runs r₀ w r = runs - r
+
+loop-holds : tie.Need-loop-holds Inv-loop μ-loop
+unfolding times
+loop-holds c =
+    let l = c .before .before .before in
+    let s = l .before .before .before .before .before .before .before .before .before in
+    let one : blockWords (s .args .family) * (0 + 1) ≡ blockWords (s .args .family) = omega arith in
+    (search needs, l .load2 .kept .0 ∙ s .pre, rw one)
+
+loop-again : tie.Need-loop-again Inv-loop μ-loop
+loop-again c =
+    let u = c .before .before in
+    let l = u .before .before .before in
+    let s = l .before .before .before .before .before .before .before .before .before .before .before .before .before in (
+      omega arith,
+      u .run .ensures .1 ∙ l .loop .inv .1,
+      runs-step (s .args .family) (s .args .c) _ _ (l .loop .w) _ (l .loop .r) (l .loop .inv .2) (u .run .ensures .0),
+    )
+
+load-requires-2 : tie.Need-load-requires-2 Inv-loop μ-loop
+load-requires-2 c κs =
+    let s = c .before .before .before .before .before .before .before .before in
+    let n = numbers (s .args .family) in
+    (omega (arith, c .block-words .ensures, s .pre, block-first (s .args .family)), omega (arith, c .block-words .ensures, n .high))
+
+run-requires : tie.Need-run-requires Inv-loop μ-loop
+run-requires c κs =
+    let l = c .before .before in
+    let s = l .before .before .before .before .before .before .before .before .before .before .before .before .before in
+    (rw (l .loop .inv .1) (run-inside (s .args .family) (l .loop .r) (omega (arith, l .before .runs .ensures))), rw (l .loop .inv .1) (numbers (s .args .family) .all))
+
+returns : tie.Need-returns Inv-loop μ-loop
+returns c =
+    let l = c .before in
+    let m = l .before .before .before .before in
+    let s = m .before .before .before .before .before .before .before .before .before in
+    let salt = m .before .before .before .before .before .load .ensures in
+    let k : l .loop .r ≡ table.runs (s .args .family) = omega (arith, l .before .runs .ensures) in
+    let n = m .before .block-words in
+    runs-all (s .args .family) (s .args .c) _ (s .args .t3) (drop (n .result) (now (s .args .w))) _ (l .loop .w) (n .result) (l .loop .r) (n .ensures) k (l .loop .inv .1) (m .load2 .ensures)
+    (l .loop .inv .2)
+    ∙ ap (expandOf (s .args .family) (s .args .t3) (s .args .c)) (salt ∙ append-nil _)
+
+pub expand-spec : {M : Type 1} → statement M
+expand-spec =
+    tie.close
+    (tie.spec
+    Inv-loop
+    μ-loop
+    (λ c. search needs)
+    (λ c. search needs)
+    (λ c κs. search needs)
+    (λ c. search needs)
+    (λ c κs. search needs)
+    load-requires-2
+    (λ c κs. search needs)
+    loop-holds
+    run-requires
+    (λ c. search needs)
+    (λ c. search needs)
+    loop-again
+    (λ c. search needs)
+    returns)

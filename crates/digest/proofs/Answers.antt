@@ -1,0 +1,188 @@
+-- The four calls' answers: where a test decides, and where none does.
+use mathlib.Core.Path.{_≡_, refl, ap, sym, _∙_}
+use mathlib.Core.Bool.{Bool, true, false, _&&_}
+use mathlib.Core.List.{List, [], _∷_, _++_}
+use Prim.Native.Nat.{ℕ, _+_, _*_, _/_, _%_, _≤_, _<_}
+use native.Mathlib.Omega.{arith}
+use native.Mathlib.Nat.{zero-div, le-mul-of-pos-right}
+use lib.Dec.{eqb, leb, ltb}
+use lib.ListN.{length, take, drop, replicate, length-append}
+use lib.Seq.{take-take, length-take-le, drop-nil}
+use borrow.Author.Tests.{leb-true, lt-ltb, le-ltb}
+use Rattle.compress.specs.declared.family.Family.{Family}
+use Rattle.compress.specs.Family.{padLimit}
+use Rattle.compress.specs.Compression.{startOf}
+use Rattle.digest.specs.declared.refusal.Refusal.{Refusal}
+use Rattle.digest.specs.declared.refusal.Refusal.the-variants.{DigestLength, SaltSize, MessageLimit, StateInconsistent, BufferShort}
+use Rattle.digest.specs.declared.refusal.Answer.{Answer}
+use Rattle.digest.specs.declared.refusal.Answer.the-variants.{Accepted, Refused}
+use Rattle.digest.specs.declared.state.State.{State}
+use Rattle.digest.specs.declared.calls.Step.{Step}
+use Rattle.digest.specs.declared.calls.Report.{Report}
+use Rattle.digest.specs.declared.calls.Report.the-variants as report
+use Rattle.digest.specs.declared.calls.Finished.{Finished}
+use Rattle.digest.specs.Refusal.{ifAccepted}
+use Rattle.digest.specs.Bytes.{le, bytesOf, fill}
+use Rattle.digest.specs.Blocks.{pick, wholeBlocks, lastBlocks, chainOver}
+use Rattle.digest.specs.State.{limit, allowed, familyOf, consistentOf, zeroState, stateOf, heldOf, absorbed}
+use Rattle.digest.specs.Calls.{saltFits, beginAnswer, beginOf, addAnswer, addOf, closing, stateDigest, finishAnswer, finishOf, finishBuffer, oneShotAnswer, oneShotOf, oneShotBuffer}
+use Rattle.digest.proofs.Sizes.{block-pos}
+use Rattle.digest.proofs.Filling.{and-left, and-right, le-length, fill-nil}
+use Rattle.digest.proofs.Blocking.{chain-length}
+use Rattle.digest.proofs.Soundness.{Sound, sound}
+use Rattle.digest.proofs.Cuts.{start-consistent, state-absorbed, state-digest, state-count, state-consistent}
+
+pub start-made : (m : ℕ) (salt : List ℕ) {f : Family} {chain filled : List ℕ} → f ≡ familyOf m → chain ≡ startOf f m → filled ≡ fill 64 salt
+    → _≡_ {A = State} (record { family = f; m = m; salt = filled; chain = chain; covered = record { 0 = 0 }; compressed = 0; held = replicate 128 0 }) (stateOf m salt [])
+unfolding stateOf wholeBlocks chainOver
+start-made m salt ef ec es = rw (ec, ef, es, zero-div, drop-nil, fill-nil)
+
+-- begin
+module _ (m : ℕ) (salt : List ℕ) where
+  pub begin-length : allowed m ≡ false → beginAnswer m salt ≡ Refused DigestLength
+  unfolding beginAnswer
+  begin-length h = rw h
+
+  module _ (ok : allowed m ≡ true) {f : Family} (of : f ≡ familyOf m) where
+    pub begin-salt : saltFits f salt ≡ false → beginAnswer m salt ≡ Refused SaltSize
+    unfolding beginAnswer
+    begin-salt h = rw (ok, ← of, h)
+
+    pub begin-in : saltFits f salt ≡ true → beginAnswer m salt ≡ Accepted
+    unfolding beginAnswer
+    begin-in h = rw (ok, ← of, h)
+
+  pub begun : {a : Answer} {s : State} → beginAnswer m salt ≡ a → s ≡ ifAccepted a (stateOf m salt []) zeroState → _≡_ {A = Step} (record { answer = a; state = s }) (beginOf m salt)
+  unfolding beginOf
+  begun e h = rw (e, h)
+
+-- add
+module _ (s : State) (xs : List ℕ) where
+  pub add-not : consistentOf s ≡ false → addAnswer s xs ≡ Refused StateInconsistent
+  unfolding addAnswer
+  add-not h = rw h
+
+  module _ (ok : consistentOf s ≡ true) where
+    pub add-over : limit < s .covered .0 + length xs → addAnswer s xs ≡ Refused MessageLimit
+    unfolding addAnswer
+    add-over h = rw (ok, lt-ltb limit (s .covered .0 + length xs) h)
+
+    pub add-in : s .covered .0 + length xs ≤ limit → addAnswer s xs ≡ Accepted
+    unfolding addAnswer
+    add-in h = rw (ok, le-ltb limit (s .covered .0 + length xs) h)
+
+  pub added : {a : Answer} {t : State} → addAnswer s xs ≡ a → t ≡ ifAccepted a (absorbed s xs) s → _≡_ {A = Step} (record { answer = a; state = t }) (addOf s xs)
+  unfolding addOf
+  added e h = rw (e, h)
+
+-- the digest's size
+pub m-max : (m : ℕ) → allowed m ≡ true → m / 8 ≤ 64
+unfolding allowed
+m-max m h = omega (arith, leb-true m 512 (and-right (ltb 0 m) (leb m 512) (and-left (ltb 0 m && leb m 512) (eqb (m % 8) 0) h)))
+
+bytes-length : (ws : List ℕ) → length (bytesOf ws) ≡ 4 * length ws
+unfolding bytesOf
+bytes-length [] = refl
+bytes-length (w ∷ ws) = omega (arith, length-append (le 4 w) (bytesOf ws), le-length 4 w, bytes-length ws)
+
+-- finish compresses one block or two
+pub closing-max : (s : State) → length (closing s) ≤ 2
+unfolding closing lastBlocks
+closing-max s = by (leb (length (heldOf s)) (padLimit (s .family))) _ _ _
+  where
+    by : (t : Bool) (x y z : ℕ × List ℕ) → length (pick t (x ∷ []) (y ∷ z ∷ [])) ≤ 2
+    by true x y z = omega arith
+    by false x y z = omega arith
+
+pub count-max : (s : State) → Sound s → s .compressed ≤ limit
+count-max s ok = omega (arith, ok .within, ok .whole, le-mul-of-pos-right (s .compressed) (block-pos (s .family)))
+
+-- finish
+module _ (s : State) (out : List ℕ) where
+  pub finish-not : consistentOf s ≡ false → finishAnswer s out ≡ Refused StateInconsistent
+  unfolding finishAnswer
+  finish-not h = rw h
+
+  pub finish-refused : {r : Refusal} → finishAnswer s out ≡ Refused r → _≡_ {A = Finished} (record { report = report.Refused r; state = s }) (finishOf s out) × (out ≡ finishBuffer s out)
+  unfolding finishOf finishBuffer
+  finish-refused e = (rw e, rw e)
+
+  module _ (ok : consistentOf s ≡ true) where
+    pub finish-short : length out < s .m / 8 → finishAnswer s out ≡ Refused BufferShort
+    unfolding finishAnswer
+    finish-short h = rw (ok, lt-ltb (length out) (s .m / 8) h)
+
+    finish-in : s .m / 8 ≤ length out → finishAnswer s out ≡ Accepted
+    unfolding finishAnswer
+    finish-in h = rw (ok, le-ltb (length out) (s .m / 8) h)
+
+    -- what close, spell and copy_out ensure
+    pub finished : s .m / 8 ≤ length out → length (s .chain) ≡ 16 → (bytes : List ℕ) {chain after : List ℕ} {n : ℕ}
+        → (chain ≡ chainOver (s .family) (s .salt) (closing s) (s .chain)) × (n ≡ length (closing s))
+        → take 64 bytes ≡ bytesOf chain → after ≡ take (s .m / 8) bytes ++ drop (s .m / 8) out
+        → _≡_ {A = Finished} (record { report = report.Covers (s .covered) (s .compressed + n); state = s }) (finishOf s out) × (after ≡ finishBuffer s out)
+    unfolding finishOf finishBuffer stateDigest
+    finished h sixteen bytes c b a =
+        let k = s .m / 8 in
+        let whole = chainOver (s .family) (s .salt) (closing s) (s .chain) in
+        let t : take k bytes ≡ take k (bytesOf whole) = sym (take-take k 64 bytes (m-max (s .m) (sound s ok .allowed))) ∙ ap (take k) (b ∙ ap bytesOf (c .0)) in
+        let l : length (take k (bytesOf whole)) ≡ k =
+        length-take-le k (bytesOf whole)
+        (omega (arith, m-max (s .m) (sound s ok .allowed), bytes-length whole, chain-length (s .family) (s .salt) (closing s) (s .chain) sixteen)) in
+        (rw (finish-in h, c .1), rw (finish-in h, l) (a ∙ rw t))
+
+-- one_shot
+module _ (m : ℕ) (salt xs out : List ℕ) where
+  pub shot-refused : {r : Refusal} → oneShotAnswer m salt xs out ≡ Refused r → _≡_ {A = Report} (report.Refused r) (oneShotOf m salt xs out) × (out ≡ oneShotBuffer m salt xs out)
+  unfolding oneShotOf oneShotBuffer
+  shot-refused e = (rw e, rw e)
+
+  pub shot-length : allowed m ≡ false → oneShotAnswer m salt xs out ≡ Refused DigestLength
+  unfolding oneShotAnswer
+  shot-length h = rw h
+
+  module _ (ok : allowed m ≡ true) {f : Family} (of : f ≡ familyOf m) where
+    pub shot-salt : saltFits f salt ≡ false → oneShotAnswer m salt xs out ≡ Refused SaltSize
+    unfolding oneShotAnswer
+    shot-salt h = rw (ok, ← of, h)
+
+    module _ (fits : saltFits f salt ≡ true) where
+      pub shot-over : limit < length xs → oneShotAnswer m salt xs out ≡ Refused MessageLimit
+      unfolding oneShotAnswer
+      shot-over h = rw (ok, ← of, fits, lt-ltb limit (length xs) h)
+
+      module _ (room : length xs ≤ limit) where
+        pub shot-short : length out < m / 8 → oneShotAnswer m salt xs out ≡ Refused BufferShort
+        unfolding oneShotAnswer
+        shot-short h = rw (ok, ← of, fits, le-ltb limit (length xs) room, lt-ltb (length out) (m / 8) h)
+
+        shot-in : m / 8 ≤ length out → oneShotAnswer m salt xs out ≡ Accepted
+        unfolding oneShotAnswer
+        shot-in h = rw (ok, ← of, fits, le-ltb limit (length xs) room, le-ltb (length out) (m / 8) h)
+
+        abbrev s : State
+        s = stateOf m salt xs
+
+        sound-end : consistentOf s ≡ true
+        sound-end = state-consistent m salt xs ok (rw of at fits) room
+
+        covers : s .covered .0 ≡ length xs
+        unfolding stateOf
+        covers = refl
+
+        same-m : s .m ≡ m
+        unfolding stateOf
+        same-m = refl
+
+        pub shot-start : {start : State} → start ≡ stateOf m salt [] → (consistentOf start ≡ true) × (start .covered .0 + length xs ≤ limit)
+        unfolding stateOf
+        shot-start made = rw made (start-consistent m salt ok (rw of at fits), omega arith)
+
+        -- what started, absorb and finish ensure
+        pub shot : m / 8 ≤ length out → {start whole : State} → start ≡ stateOf m salt [] → whole ≡ absorbed start xs → {done : Finished} {after : List ℕ}
+            → done ≡ finishOf whole out → after ≡ finishBuffer whole out → (done .report ≡ oneShotOf m salt xs out) × (after ≡ oneShotBuffer m salt xs out)
+        unfolding oneShotOf oneShotBuffer finishOf finishBuffer
+        shot h {start} {whole} made took e1 e2 =
+            let w : whole ≡ s = took ∙ rw made (state-absorbed m salt [] xs) in
+            let e : finishAnswer s out ≡ Accepted = finish-in s out sound-end (rw same-m h) in
+            (rw (e1, w, e, shot-in h, state-count, covers), rw (e2, w, e, shot-in h, state-digest))

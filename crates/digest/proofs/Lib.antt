@@ -1,0 +1,14 @@
+pub mod Sizes
+pub mod Filling
+pub mod Blocking
+pub mod Soundness
+pub mod Cuts
+pub mod Stores
+pub mod Tests
+pub mod Held
+pub mod Middle
+pub mod Closing
+pub mod Answers
+pub mod Joined
+pub mod Counters
+pub mod Openings

@@ -1,0 +1,271 @@
+// Begin, add, finish and one-shot. Each tests in document 01's order, and a refusal changes nothing.
+ghost use mathlib.Core.Path.{_≡_};
+ghost use mathlib.Core.Bool.{true};
+ghost use mathlib.Core.List.{[], _++_};
+ghost use Prim.Native.Nat.{_+_, _*_, _≤_, min};
+ghost use lib.Dec.{eqb};
+ghost use lib.ListN.{length};
+ghost use lib.Seq.{sets};
+ghost use Rattle.compress.specs.Family.{padLimit, lengthBytes};
+ghost use Rattle.digest.specs.Bytes.{le};
+ghost use Rattle.digest.specs.Blocks.{pick, chainOver};
+ghost use Rattle.digest.specs.State.{limit, allowed, familyOf, consistentOf, stateOf, absorbed};
+ghost use Rattle.digest.specs.Calls.{saltFits, beginOf, addOf, closing, stateDigest, finishOf, finishBuffer, oneShotOf, oneShotBuffer};
+use crate::bytes;
+use crate::refusal::Answer;
+use crate::refusal::Refusal;
+use crate::state;
+use crate::state::Length;
+use crate::state::State;
+use compress::Counter;
+use compress::Family;
+
+// An answer, and the state handed back.
+pub struct Step {
+    pub answer: Answer,
+    pub state: State,
+}
+
+// What a digest covers: bytes, and blocks compressed with padding included.
+pub enum Report {
+    Covers(Length, u64),
+    Refused(Refusal),
+}
+
+pub struct Finished {
+    pub report: Report,
+    pub state: State,
+}
+
+fn salt_fits(family: Family, salt: &[u8]) -> bool
+    ensures { λ r. ⌜ r ≡ saltFits family (now (salt .entry)) ⌝ }
+{
+    if salt.len() == 0 {
+        return true;
+    }
+    salt.len() == family.salt_bytes()
+}
+
+// The state at the start, for an m that is allowed and a salt that fits.
+fn started(m: u16, salt: &[u8]) -> State
+    requires { ⌜ length (now salt) ≤ 64 ⌝ }
+    ensures { λ r. ⌜ r ≡ stateOf m (now (salt .entry)) [] ⌝ }
+{
+    let family = state::family_of(m);
+    let chain = compress::starting_value(family, m);
+    let filled = bytes::fill_salt(salt);
+    State {
+        family: family,
+        m: m,
+        salt: filled,
+        chain: chain,
+        covered: Length(0),
+        compressed: 0,
+        held: [0u8; 128],
+    }
+}
+
+// Starts a digest of m bits. The salt is empty or of the family's size.
+pub fn begin(m: u16, salt: &[u8]) -> Step
+    ensures { λ r. ⌜ r ≡ beginOf m (now (salt .entry)) ⌝ }
+{
+    if !state::is_allowed(m) {
+        return Step {
+            answer: Answer::Refused(Refusal::DigestLength),
+            state: state::zero_state(),
+        };
+    }
+    if !salt_fits(state::family_of(m), salt) {
+        return Step {
+            answer: Answer::Refused(Refusal::SaltSize),
+            state: state::zero_state(),
+        };
+    }
+    Step {
+        answer: Answer::Accepted,
+        state: started(m, salt),
+    }
+}
+
+fn least(a: usize, b: usize) -> usize
+    ensures { λ r. ⌜ r ≡ min a b ⌝ }
+{
+    if a <= b { a } else { b }
+}
+
+// Takes the bytes in, a part of a block at a time.
+fn absorb(state: State, bytes: &[u8]) -> State
+    requires { ⌜ (consistentOf state ≡ true) × (state .covered .0 + length (now bytes) ≤ limit) ⌝ }
+    ensures { λ r. ⌜ r ≡ absorbed state (now (bytes .entry)) ⌝ }
+{
+    let family = state.family;
+    let salt = state.salt;
+    let size = family.block_bytes();
+    let mut chain = state.chain;
+    let mut held = state.held;
+    let mut compressed = state.compressed;
+    let covered = state.covered;
+    let mut rest = (covered.0 % (size as u64)) as usize;
+    let mut counter = Counter::of(8 * (covered.0 - rest as u64));
+    let bits = (8 * size) as u32;
+    let mut i = 0;
+    while i < bytes.len() {
+        let count = least(size - rest, bytes.len() - i);
+        let more = bytes::take_in(held, rest, bytes, i, count);
+        held = more;
+        rest += count;
+        i += count;
+        if rest == size {
+            let reached = counter.advance(bits);
+            let next = compress::compress(family, chain, held, reached, salt);
+            counter = reached;
+            chain = next;
+            compressed += 1;
+            held = [0u8; 128];
+            rest = 0;
+        }
+    }
+    let m = state.m;
+    let reach = Length(covered.0 + bytes.len() as u64);
+    State {
+        family: family,
+        m: m,
+        salt: salt,
+        chain: chain,
+        covered: reach,
+        compressed: compressed,
+        held: held,
+    }
+}
+
+// Adds bytes to a digest.
+pub fn add(state: State, bytes: &[u8]) -> Step
+    ensures { λ r. ⌜ r ≡ addOf state (now (bytes .entry)) ⌝ }
+{
+    if !state::consistent(state) {
+        return Step {
+            answer: Answer::Refused(Refusal::StateInconsistent),
+            state: state,
+        };
+    }
+    let covered = state.covered;
+    if bytes.len() as u64 > state::LIMIT - covered.0 {
+        return Step {
+            answer: Answer::Refused(Refusal::MessageLimit),
+            state: state,
+        };
+    }
+    Step {
+        answer: Answer::Accepted,
+        state: absorb(state, bytes),
+    }
+}
+
+// The chain after the last block, and how many blocks that took.
+struct Closed {
+    chain: [u32; 16],
+    count: u64,
+}
+
+// The counter of the only last block: 0 where it holds padding only.
+fn last_counter(rest: usize, bits: u64) -> u64
+    ensures { λ r. ⌜ r ≡ pick (eqb rest 0) 0 bits ⌝ }
+{
+    if rest == 0 { 0 } else { bits }
+}
+
+// Puts the message length in bits and m at a block's end.
+fn with_length(block: [u8; 128], family: Family, covered: Length, m: u16) -> [u8; 128]
+    requires { ⌜ covered .0 ≤ limit ⌝ }
+    ensures { λ r. ⌜ r ≡ sets block (padLimit family + 1) (le (lengthBytes family) (8 * covered .0) ++ le 2 m) ⌝ }
+{
+    let at = family.pad_limit() + 1;
+    let field = family.length_bytes();
+    let first = bytes::put_le(block, at, 8 * covered.0, field);
+    bytes::put_le(first, at + field, m as u64, 2)
+}
+
+// Pads a copy of the held block and compresses it.
+fn close(state: State) -> Closed
+    requires { ⌜ consistentOf state ≡ true ⌝ }
+    ensures { λ r. ⌜ (r .chain ≡ chainOver (state .family) (state .salt) (closing state) (state .chain)) × (r .count ≡ length (closing state)) ⌝ }
+{
+    let family = state.family;
+    let m = state.m;
+    let salt = state.salt;
+    let chain = state.chain;
+    let covered = state.covered;
+    let bits = 8 * covered.0;
+    let rest = (covered.0 % (family.block_bytes() as u64)) as usize;
+    let mut block = state.held;
+    block[rest] = 0x80;
+    if rest <= family.pad_limit() {
+        let last = with_length(block, family, covered, m);
+        let counter = Counter::of(last_counter(rest, bits));
+        let done = compress::compress(family, chain, last, counter, salt);
+        return Closed {
+            chain: done,
+            count: 1,
+        };
+    }
+    let next = compress::compress(family, chain, block, Counter::of(bits), salt);
+    let last = with_length([0u8; 128], family, covered, m);
+    let done = compress::compress(family, next, last, Counter::of(0), salt);
+    Closed {
+        chain: done,
+        count: 2,
+    }
+}
+
+// Writes the digest of what a state covers to the first m/8 bytes of the buffer. The state goes on unchanged.
+pub fn finish(state: State, out: &mut [u8]) -> Finished
+    ensures result { λ r. ⌜ r ≡ finishOf state (now (out .entry)) ⌝ }
+    ensures buffer { λ r. ⌜ now (out .exit) ≡ finishBuffer state (now (out .entry)) ⌝ }
+{
+    if !state::consistent(state) {
+        return Finished {
+            report: Report::Refused(Refusal::StateInconsistent),
+            state: state,
+        };
+    }
+    let m = state.m;
+    let count = (m / 8) as usize;
+    if out.len() < count {
+        return Finished {
+            report: Report::Refused(Refusal::BufferShort),
+            state: state,
+        };
+    }
+    let closed = close(state);
+    let chain = closed.chain;
+    bytes::copy_out(bytes::spell(chain), count, out);
+    let covered = state.covered;
+    let compressed = state.compressed + closed.count;
+    Finished {
+        report: Report::Covers(covered, compressed),
+        state: state,
+    }
+}
+
+// The digest of one message.
+pub fn one_shot(m: u16, salt: &[u8], bytes: &[u8], out: &mut [u8]) -> Report
+    ensures result { λ r. ⌜ r ≡ oneShotOf m (now (salt .entry)) (now (bytes .entry)) (now (out .entry)) ⌝ }
+    ensures buffer { λ r. ⌜ now (out .exit) ≡ oneShotBuffer m (now (salt .entry)) (now (bytes .entry)) (now (out .entry)) ⌝ }
+{
+    if !state::is_allowed(m) {
+        return Report::Refused(Refusal::DigestLength);
+    }
+    if !salt_fits(state::family_of(m), salt) {
+        return Report::Refused(Refusal::SaltSize);
+    }
+    if bytes.len() as u64 > state::LIMIT {
+        return Report::Refused(Refusal::MessageLimit);
+    }
+    if out.len() < (m / 8) as usize {
+        return Report::Refused(Refusal::BufferShort);
+    }
+    let start = started(m, salt);
+    let whole = absorb(start, bytes);
+    let finished = finish(whole, out);
+    finished.report
+}
