@@ -5,3 +5,4 @@ pub mod Numbers
 pub mod Rounds
 pub mod Below
 pub mod Compressed
+pub mod Outcomes

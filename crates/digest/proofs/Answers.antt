@@ -30,7 +30,8 @@ use Rattle.digest.proofs.Sizes.{block-pos}
 use Rattle.digest.proofs.Filling.{and-left, and-right, le-length, fill-nil}
 use Rattle.digest.proofs.Blocking.{chain-length}
 use Rattle.digest.proofs.Soundness.{Sound, sound}
-use Rattle.digest.proofs.Cuts.{start-consistent, state-absorbed, state-digest, state-count, state-consistent}
+use Rattle.digest.proofs.Cuts.{start-consistent, state-absorbed}
+use Rattle.digest.proofs.Joined.{finish-one-shot}
 
 pub start-made : (m : ℕ) (salt : List ℕ) {f : Family} {chain filled : List ℕ} → f ≡ familyOf m → chain ≡ startOf f m → filled ≡ fill 64 salt
     → _≡_ {A = State} (record { family = f; m = m; salt = filled; chain = chain; covered = record { 0 = 0 }; compressed = 0; held = replicate 128 0 }) (stateOf m salt [])
@@ -156,33 +157,14 @@ module _ (m : ℕ) (salt xs out : List ℕ) where
         unfolding oneShotAnswer
         shot-short h = rw (ok, ← of, fits, le-ltb limit (length xs) room, lt-ltb (length out) (m / 8) h)
 
-        shot-in : m / 8 ≤ length out → oneShotAnswer m salt xs out ≡ Accepted
-        unfolding oneShotAnswer
-        shot-in h = rw (ok, ← of, fits, le-ltb limit (length xs) room, le-ltb (length out) (m / 8) h)
-
-        abbrev s : State
-        s = stateOf m salt xs
-
-        sound-end : consistentOf s ≡ true
-        sound-end = state-consistent m salt xs ok (rw of at fits) room
-
-        covers : s .covered .0 ≡ length xs
-        unfolding stateOf
-        covers = refl
-
-        same-m : s .m ≡ m
-        unfolding stateOf
-        same-m = refl
-
         pub shot-start : {start : State} → start ≡ stateOf m salt [] → (consistentOf start ≡ true) × (start .covered .0 + length xs ≤ limit)
         unfolding stateOf
         shot-start made = rw made (start-consistent m salt ok (rw of at fits), omega arith)
 
         -- what started, absorb and finish ensure
-        pub shot : m / 8 ≤ length out → {start whole : State} → start ≡ stateOf m salt [] → whole ≡ absorbed start xs → {done : Finished} {after : List ℕ}
+        pub shot : {start whole : State} → start ≡ stateOf m salt [] → whole ≡ absorbed start xs → {done : Finished} {after : List ℕ}
             → done ≡ finishOf whole out → after ≡ finishBuffer whole out → (done .report ≡ oneShotOf m salt xs out) × (after ≡ oneShotBuffer m salt xs out)
-        unfolding oneShotOf oneShotBuffer finishOf finishBuffer
-        shot h {start} {whole} made took e1 e2 =
-            let w : whole ≡ s = took ∙ rw made (state-absorbed m salt [] xs) in
-            let e : finishAnswer s out ≡ Accepted = finish-in s out sound-end (rw same-m h) in
-            (rw (e1, w, e, shot-in h, state-count, covers), rw (e2, w, e, shot-in h, state-digest))
+        shot {start} {whole} made took e1 e2 =
+            let w : whole ≡ stateOf m salt xs = took ∙ rw made (state-absorbed m salt [] xs) in
+            let same = finish-one-shot m salt (begin-in m salt ok of fits) xs room out in
+            (rw (e1, w) (same .0), rw (e2, w) (same .1))

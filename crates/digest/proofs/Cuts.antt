@@ -23,6 +23,8 @@ use Rattle.digest.proofs.Sizes.{block-pos, block-max}
 use Rattle.digest.proofs.Filling.{zero-list, fill-take, fill-length, zero-fill}
 use Rattle.digest.proofs.Blocking.{wholeBlocks-more, wholeBlocks-add, wholeBlocks-length, rest-length, rest-small, chainOver-append, chain-zero}
 use Rattle.digest.proofs.Soundness.{Sound, consistent-of}
+use Rattle.digest.proofs.Held.{held-length}
+use Rattle.digest.proofs.Tests.{salt-size}
 
 module _ (s : State) (whole : s .covered .0 ≡ s .compressed * blockBytes (s .family) + s .covered .0 % blockBytes (s .family)) (full : length (s .held) ≡ 128) (a : List ℕ) where
   abbrev b : ℕ
@@ -40,12 +42,8 @@ module _ (s : State) (whole : s .covered .0 ≡ s .compressed * blockBytes (s .f
   small : length p % b < b
   small = mod-lt (length p) (block-pos (s .family))
 
-  held-length : length (heldOf s) ≡ s .covered .0 % b
-  unfolding heldOf
-  held-length = length-take-le (s .covered .0 % b) (s .held) (omega (arith, mod-lt (s .covered .0) (block-pos (s .family)), block-max (s .family)))
-
   covered-next : s .covered .0 + length a ≡ (s .compressed + n) * b + length p % b
-  covered-next = omega (arith, split, length-append (heldOf s) a, held-length, whole)
+  covered-next = omega (arith, split, length-append (heldOf s) a, held-length s full, whole)
 
   rest-next : (s .covered .0 + length a) % b ≡ length p % b
   rest-next = rw covered-next (mul-add-mod-self-right (s .compressed + n) b (length p % b) ∙ mod-eq-of-lt small)
@@ -128,12 +126,7 @@ belongs-own m = by (leb m 256) refl
     by false e = lt-ltb 256 m (leb-false m 256 e)
 
 pub salt-zero : (f : Family) (salt : List ℕ) → saltFits f salt ≡ true → allZero (drop (saltBytes f) (fill 64 salt)) ≡ true
-unfolding saltFits
-salt-zero f salt h = zero-fill 64 salt (saltBytes f) (by (eqb (length salt) 0) refl h)
-  where
-    by : (t : Bool) → eqb (length salt) 0 ≡ t → (t || eqb (length salt) (saltBytes f)) ≡ true → length salt ≤ saltBytes f
-    by true e h = omega (arith, eqb-true (length salt) 0 e)
-    by false e h = omega (arith, eqb-true (length salt) (saltBytes f) h)
+salt-zero f salt h = zero-fill 64 salt (saltBytes f) (salt-size f salt h)
 
 module _ (m : ℕ) (salt xs : List ℕ) where
   abbrev f : Family

@@ -12,3 +12,4 @@ pub mod Answers
 pub mod Joined
 pub mod Counters
 pub mod Openings
+pub mod Outcomes

@@ -68,7 +68,7 @@ returns-5 c =
     let e = g .before in
     let f = e .before .before in
     let a = start (f .before .before) .args in
-    shot (a .m) (a .salt .now) (a .bytes .now) (a .out .now) (ok (f .before)) (f .family-of .ensures) (fits e) (g .if3 .left) (w .before .before .if4 .left)
+    shot (a .m) (a .salt .now) (a .bytes .now) (a .out .now) (ok (f .before)) (f .family-of .ensures) (fits e) (g .if3 .left)
     (w .before .started .ensures) (w .absorb .ensures) (d .finish .ensures .0) (d .finish .ensures .1)
 
 pub one-shot-spec : {M : Type 1} → statement M
