@@ -81,7 +81,7 @@ pub m-max : (m : ℕ) → allowed m ≡ true → m / 8 ≤ 64
 unfolding allowed
 m-max m h = omega (arith, leb-true m 512 (and-right (ltb 0 m) (leb m 512) (and-left (ltb 0 m && leb m 512) (eqb (m % 8) 0) h)))
 
-bytes-length : (ws : List ℕ) → length (bytesOf ws) ≡ 4 * length ws
+pub bytes-length : (ws : List ℕ) → length (bytesOf ws) ≡ 4 * length ws
 unfolding bytesOf
 bytes-length [] = refl
 bytes-length (w ∷ ws) = omega (arith, length-append (le 4 w) (bytesOf ws), le-length 4 w, bytes-length ws)

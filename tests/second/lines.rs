@@ -1,0 +1,139 @@
+//! The line format of case files: writing states, reading lines, answering them.
+
+use crate::digest::{add, begin, finish, one_shot, State};
+use crate::hash::Family;
+use crate::log::check;
+
+/// Most bytes of a line, its end not counted.
+pub const LINE_MOST: usize = 131_072;
+/// Most bytes that a byte string stands for.
+const STRING_MOST: usize = 40_000;
+
+pub fn hex(bytes: &[u8]) -> String {
+    if bytes.is_empty() {
+        return "-".to_string();
+    }
+    bytes.iter().map(|b| format!("{b:02x}")).collect()
+}
+
+/// FAMILY M SALT CHAIN COVERED COMPRESSED HELD
+pub fn state_text(s: &State) -> String {
+    let family = if s.family == Family::Small { 0 } else { 1 };
+    let chain: String = s.chain.iter().map(|w| format!("{w:08x}")).collect();
+    let (salt, held) = (hex(&s.salt), hex(&s.held));
+    format!("{family} {} {salt} {chain} {} {} {held}", s.m, s.covered, s.compressed)
+}
+
+/// The answers to a whole case file.
+pub fn answer_all(input: &[u8]) -> String {
+    let mut state = State::zero();
+    let mut out = String::new();
+    let body = input.strip_suffix(b"\n").unwrap_or(input);
+    if input.is_empty() {
+        return out;
+    }
+    for line in body.split(|&b| b == b'\n') {
+        if line.first() == Some(&b'#') {
+            continue;
+        }
+        match answer(line, &mut state) {
+            Some(text) => out += &text,
+            None => out += "unreadable",
+        }
+        out.push('\n');
+    }
+    out
+}
+
+/// The answer to one line, or none if the line is not readable; then the state is as before.
+fn answer(line: &[u8], state: &mut State) -> Option<String> {
+    if line.len() > LINE_MOST {
+        return None;
+    }
+    let text = std::str::from_utf8(line).ok()?;
+    let words: Vec<&str> = text.split(' ').collect();
+    match words[..] {
+        ["begin", m, salt] => {
+            let (number, made) = begin(number16(m)?, &bytes(salt)?);
+            *state = made;
+            Some(format!("begin {number} {}", state_text(state)))
+        }
+        ["state", family, m, salt, chain, covered, compressed, held] => {
+            let family = match number64(family)? {
+                0 => Family::Small,
+                1 => Family::Large,
+                _ => return None,
+            };
+            let chain_bytes: [u8; 64] = exact(chain)?;
+            let mut chain = [0; 16];
+            for (word, four) in chain.iter_mut().zip(chain_bytes.chunks(4)) {
+                *word = u32::from_be_bytes([four[0], four[1], four[2], four[3]]);
+            }
+            let (m, salt, held) = (number16(m)?, exact(salt)?, exact(held)?);
+            let (covered, compressed) = (number64(covered)?, number64(compressed)?);
+            *state = State { family, m, salt, chain, covered, compressed, held };
+            Some(format!("state {}", state_text(state)))
+        }
+        ["add", data] => {
+            let (number, made) = add(state, &bytes(data)?);
+            *state = made;
+            Some(format!("add {number} {}", state_text(state)))
+        }
+        ["finish", buffer] => {
+            let mut buffer = bytes(buffer)?;
+            let r = finish(state, &mut buffer);
+            let counts = format!("{} {} {}", r.number, r.covered, r.compressed);
+            Some(format!("finish {counts} {} {}", state_text(state), hex(&buffer)))
+        }
+        ["oneshot", m, salt, data, buffer] => {
+            let (m, salt, data) = (number16(m)?, bytes(salt)?, bytes(data)?);
+            let mut buffer = bytes(buffer)?;
+            let r = one_shot(m, &salt, &data, &mut buffer);
+            let counts = format!("{} {} {}", r.number, r.covered, r.compressed);
+            Some(format!("oneshot {counts} {}", hex(&buffer)))
+        }
+        ["check", log, buffer] => {
+            let (log, mut buffer) = (bytes(log)?, bytes(buffer)?);
+            let a = check(&log, &mut buffer);
+            let counts = format!("{} {} {} {}", a.number, a.registers, a.events, a.blocks);
+            Some(format!("check {counts} {} {}", a.verdict, hex(&buffer)))
+        }
+        _ => None,
+    }
+}
+
+/// Decimal digits only, at most 2^64 - 1.
+fn number64(word: &str) -> Option<u64> {
+    if word.is_empty() || !word.bytes().all(|b| b.is_ascii_digit()) {
+        return None;
+    }
+    word.parse().ok()
+}
+
+fn number16(word: &str) -> Option<u16> {
+    u16::try_from(number64(word)?).ok()
+}
+
+fn digit(b: u8) -> Option<u8> {
+    match b {
+        b'0'..=b'9' => Some(b - b'0'),
+        b'a'..=b'f' => Some(b - b'a' + 10),
+        _ => None,
+    }
+}
+
+/// A byte string: `-`, or lower-case hex of at most 40,000 bytes.
+fn bytes(word: &str) -> Option<Vec<u8>> {
+    if word == "-" {
+        return Some(Vec::new());
+    }
+    if word.is_empty() || word.len() % 2 == 1 || word.len() > 2 * STRING_MOST {
+        return None;
+    }
+    word.as_bytes().chunks(2).map(|two| Some(16 * digit(two[0])? + digit(two[1])?)).collect()
+}
+
+/// A byte string of exactly N bytes.
+fn exact<const N: usize>(word: &str) -> Option<[u8; N]> {
+    bytes(word)?.try_into().ok()
+}

@@ -1,0 +1,63 @@
+//! Sample logs.
+
+use crate::log::LONGEST;
+use crate::parts::{counted, Parts};
+use crate::random::Random;
+use std::path::Path;
+
+/// The 40-byte log of document 01.
+pub fn smallest() -> Vec<u8> {
+    let mut log = vec![0, 0, 1, 0];
+    log.extend([0; 32]);
+    log.extend([0, 0, 0, 0]);
+    log
+}
+
+/// The longest log that is accepted: salted, 24 registers, 1,024 events, right claims.
+pub fn longest() -> Vec<u8> {
+    let log = Parts::random(&mut Random::new(8), true, 24, 1024).claimed().bytes();
+    assert_eq!(log.len(), LONGEST);
+    log
+}
+
+/// Name and contents of each sample.
+pub fn all() -> Vec<(&'static str, Vec<u8>)> {
+    let mut random = Random::new(5);
+    let open = Parts::random(&mut random, true, 3, 5);
+    let agrees = Parts::random(&mut random, false, 4, 9).claimed();
+
+    let mut differs = Parts::random(&mut random, true, 6, 20).claimed();
+    differs.claims[5][0] ^= 0x80;
+    differs.claims[3][31] ^= 1;
+    differs.claims[4] = random.array();
+
+    let cut = agrees.bytes()[..agrees.bytes().len() - 7].to_vec();
+    let leftover = [agrees.bytes(), vec![0]].concat();
+
+    let mut too_many = open.sections();
+    too_many[1][..2].copy_from_slice(&counted(25));
+
+    let mut register = open.clone();
+    register.events[2].register = 3;
+
+    vec![
+        ("smallest.log", smallest()),
+        ("noclaim.log", open.bytes()),
+        ("agrees.log", agrees.bytes()),
+        ("differs.log", differs.bytes()),
+        ("cut.log", cut),
+        ("leftover.log", leftover),
+        ("count.log", too_many.concat()),
+        ("register.log", register.bytes()),
+        ("longest.log", longest()),
+        ("too_long.log", [longest(), vec![0]].concat()),
+    ]
+}
+
+pub fn write(folder: &Path) -> std::io::Result<()> {
+    std::fs::create_dir_all(folder)?;
+    for (name, bytes) in all() {
+        std::fs::write(folder.join(name), bytes)?;
+    }
+    Ok(())
+}
