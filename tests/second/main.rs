@@ -34,8 +34,9 @@ fn main() -> ExitCode {
             .and_then(|input| say(&log::printed_check(&input)))
             .map(|()| true),
         ["printed"] => say(&printed::table_text()).map(|()| true),
+        ["ruled"] => say(&selftest::ruled_text()).map(|()| true),
         _ => {
-            eprintln!("usage: selftest | cases | expect | samples DIR | print | printed");
+            eprintln!("usage: selftest | cases | expect | samples DIR | print | printed | ruled");
             Ok(false)
         }
     };

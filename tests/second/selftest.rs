@@ -68,7 +68,7 @@ pub fn run() -> (String, bool) {
         tally.value(&format!("counters of {family:?} {size}"), made == counters);
     }
     tally.value("the 40-byte log", printed_check(&smallest()) == SMALLEST_PRINT);
-    tally.value("million-A by the rule", million_a_by_rule() == MILLION_A_BY_RULE);
+    tally.value("million-A by the rule", million_a_by_rule(256, &[])[0] == MILLION_A_BY_RULE);
     tally.value("cuts against whole messages", cuts_agree());
     let mut text: String =
         tally.missed.iter().map(|label| format!("selftest: not met: {label}\n")).collect();
@@ -104,10 +104,25 @@ fn appendix_digest(m: u16, salted: bool, message: Message) -> Vec<u32> {
     words_of(&out)
 }
 
-fn million_a_by_rule() -> u32 {
-    let mut out = [0; 32];
-    one_shot(256, &[], &Message::MillionA.bytes(), &mut out);
-    words_of(&out)[0]
+/// A million-A digest of the small family by document 01's rule: start-up calls with the zero salt,
+/// counter 0 on the padding-only block.
+fn million_a_by_rule(m: u16, salt: &[u8]) -> Vec<u32> {
+    let mut out = vec![0; m as usize / 8];
+    assert_eq!(one_shot(m, salt, &Message::MillionA.bytes(), &mut out).number, 0);
+    words_of(&out)
+}
+
+/// Those four digests, a line each, labelled like the printed ones.
+pub fn ruled_text() -> String {
+    let mut text = String::new();
+    for m in [224, 256] {
+        for (label, salt) in [("unsalted", vec![]), ("salted", vec![salt_byte(m); 32])] {
+            let words: Vec<String> =
+                million_a_by_rule(m, &salt).iter().map(|w| format!("{w:08X}")).collect();
+            text += &format!("{m} {label} million-a by the rule {}\n", words.join(" "));
+        }
+    }
+    text
 }
 
 /// The field product, the S-box of 53, and the S-box as affine map of the field inverse.
