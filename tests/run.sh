@@ -11,7 +11,7 @@ rustc -O --edition 2021 tests/second/main.rs -o "$made/second"
 "$made/second" selftest
 "$made/second" cases | cmp - crates/second_opinion/stdin
 "$made/second" expect <crates/second_opinion/stdin | cmp - crates/second_opinion/stdout
-"$made/second" printed | cmp - <(head -n 39 crates/printed_values/stdout)
+{ "$made/second" printed; "$made/second" ruled; } | cmp - crates/printed_values/stdout
 "$made/second" samples "$made"
 for log in samples/*.log; do
     name=$(basename "$log")

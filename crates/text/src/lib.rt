@@ -7,7 +7,7 @@ ghost use lib.Dec.{leb};
 ghost use lib.ListN.{length};
 ghost use lib.Seq.{sets};
 ghost use Rattle.text.specs.Place.{placed, placeAfter};
-ghost use Rattle.text.specs.Digits.{digit, lower, upper, hexOf, upperOf, decimalOf};
+ghost use Rattle.text.specs.Digits.{digit, hexOf, upperOf, decimalOf};
 
 const LOWER: u8 = 87;
 

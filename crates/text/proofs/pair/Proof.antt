@@ -1,5 +1,4 @@
 -- The digits of the byte's two halves.
-use mathlib.Core.Path.{_≡_}
 use borrow.Author.Needs.{needs}
 use Rattle.text.specs.Digits.{hexIn, hexOf}
 use Rattle.text.proofs.pair.Statement.{statement}

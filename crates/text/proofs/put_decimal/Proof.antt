@@ -1,5 +1,5 @@
 -- The digits that io finds are the fewest that hold the number.
-use mathlib.Core.Path.{_≡_, _∙_}
+use mathlib.Core.Path.{_∙_}
 use borrow.Author.Needs.{needs}
 use Rattle.text.proofs.Storing.{same-text}
 use Rattle.text.proofs.Decimal.{decimal-text}

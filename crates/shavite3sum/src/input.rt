@@ -1,0 +1,70 @@
+// Standard input, added to a digest.
+use digest::Answer;
+use digest::Refusal;
+use digest::State;
+use libc::STDIN_FILENO;
+
+pub enum Status {
+    More,
+    End,
+    Failed,
+    Refused(Refusal),
+}
+
+pub struct Turn {
+    pub state: State,
+    pub status: Status,
+}
+
+fn status_of(answer: Answer) -> Status {
+    match answer {
+        Answer::Accepted => Status::More,
+        Answer::Refused(refusal) => Status::Refused(refusal),
+    }
+}
+
+// Reads once, and adds what came.
+fn add_some(state: State, buffer: &mut [u8]) -> Turn {
+    let got = libc::read(STDIN_FILENO, buffer);
+    if got < 0 {
+        return Turn {
+            state: state,
+            status: Status::Failed,
+        };
+    }
+    if got == 0 {
+        return Turn {
+            state: state,
+            status: Status::End,
+        };
+    }
+    let n = io::count(got, buffer);
+    let step = digest::add(state, &buffer[..n]);
+    let next = step.state;
+    let answer = step.answer;
+    Turn {
+        state: next,
+        status: status_of(answer),
+    }
+}
+
+// Reads to the end. A proved loop has to end, and nothing says that the input does: the turns are counted down from a number that no
+// run uses up.
+pub(crate) fn add_all(state: State, buffer: &mut [u8]) -> Turn {
+    let mut reached = state;
+    let mut turns = u64::MAX;
+    while turns > 0 {
+        let turn = add_some(reached, buffer);
+        let status = turn.status;
+        let Status::More = status else {
+            return turn;
+        };
+        let next = turn.state;
+        reached = next;
+        turns -= 1;
+    }
+    Turn {
+        state: reached,
+        status: Status::Failed,
+    }
+}
