@@ -64,3 +64,7 @@ counter-number n h =
 -- Advancing by a block's bits is addition on that number, up to 2^128.
 pub advance-adds : (x : Counter) (bits : ℕ) → numberOf x + bits < 2 ^ 128 → numberOf (counterOf (numberOf x + bits)) ≡ numberOf x + bits
 advance-adds x bits h = counter-number (numberOf x + bits) h
+
+-- Different numbers have different counters.
+pub counter-same : (a b : ℕ) → a < 2 ^ 128 → b < 2 ^ 128 → counterOf a ≡ counterOf b → a ≡ b
+counter-same a b ha hb e = sym (counter-number a ha) ∙ ap numberOf e ∙ counter-number b hb
