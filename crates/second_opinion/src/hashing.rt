@@ -1,0 +1,106 @@
+// The calls of the digest.
+use crate::calls;
+use crate::calls::Said;
+use crate::parse;
+use crate::parse::Bits;
+use crate::parse::Bytes;
+use crate::show;
+use crate::words;
+use digest::State;
+
+// The answer's number, and the state handed back.
+fn stepped(out: &mut [u8], name: &[u8], step: digest::Step) -> Said {
+    let answer = step.answer;
+    let state = step.state;
+    let a = text::put(out, 0, name);
+    let b = show::number(out, a, answer.number() as u64);
+    Said {
+        size: show::state(out, b, state),
+        state: state,
+    }
+}
+
+pub(crate) fn begin(line: &[u8], state: State, salt: &mut [u8], out: &mut [u8]) -> Said {
+    let Bits::Are(m) = parse::read_bits(words::word(line, 1)) else {
+        return calls::unreadable(state, out);
+    };
+    let Bytes::Are(n) = parse::read_bytes(words::word(line, 2), salt) else {
+        return calls::unreadable(state, out);
+    };
+    stepped(out, b"begin", digest::begin(m, words::first(salt, n)))
+}
+
+pub(crate) fn add(line: &[u8], state: State, data: &mut [u8], out: &mut [u8]) -> Said {
+    let Bytes::Are(n) = parse::read_bytes(words::word(line, 1), data) else {
+        return calls::unreadable(state, out);
+    };
+    stepped(out, b"add", digest::add(state, words::first(data, n)))
+}
+
+// What finish reports, and the state handed back.
+fn reported(out: &mut [u8], finished: digest::Finished) -> usize {
+    let report = finished.report;
+    let state = finished.state;
+    let a = text::put(out, 0, b"finish");
+    let b = show::report(out, a, report);
+    show::state(out, b, state)
+}
+
+pub(crate) fn finish(line: &[u8], state: State, lent: &mut [u8], out: &mut [u8]) -> usize {
+    let Bytes::Are(n) = parse::read_bytes(words::word(line, 1), lent) else {
+        return show::unreadable(out);
+    };
+    if n > lent.len() {
+        return show::unreadable(out);
+    }
+    let finished = digest::finish(state, &mut lent[0..n]);
+    let at = reported(out, finished);
+    show::bytes(out, at, &lent[0..n])
+}
+
+// One-shot on a salt and bytes that are read, with the word of the buffer.
+fn into_buffer(
+    m: u16,
+    salt: &[u8],
+    data: &[u8],
+    word: &[u8],
+    lent: &mut [u8],
+    out: &mut [u8],
+) -> usize {
+    let Bytes::Are(n) = parse::read_bytes(word, lent) else {
+        return show::unreadable(out);
+    };
+    if n > lent.len() {
+        return show::unreadable(out);
+    }
+    let report = digest::one_shot(m, salt, data, &mut lent[0..n]);
+    let a = text::put(out, 0, b"oneshot");
+    let b = show::report(out, a, report);
+    show::bytes(out, b, &lent[0..n])
+}
+
+pub(crate) fn one_shot(
+    line: &[u8],
+    salt: &mut [u8],
+    data: &mut [u8],
+    lent: &mut [u8],
+    out: &mut [u8],
+) -> usize {
+    let Bits::Are(m) = parse::read_bits(words::word(line, 1)) else {
+        return show::unreadable(out);
+    };
+    let Bytes::Are(s) = parse::read_bytes(words::word(line, 2), salt) else {
+        return show::unreadable(out);
+    };
+    let Bytes::Are(d) = parse::read_bytes(words::word(line, 3), data) else {
+        return show::unreadable(out);
+    };
+    into_buffer(
+        m,
+        words::first(salt, s),
+        words::first(data, d),
+        words::word(line, 4),
+        lent,
+        out,
+    )
+}

@@ -1,0 +1,120 @@
+// Writing words to a line: each is put behind a space, and the answer is the place behind it.
+use bootlog::Checked;
+use bootlog::Verdict;
+use compress::Family;
+use digest::Report;
+use digest::State;
+
+// The whole line, where the one read is not as the format has it.
+pub(crate) fn unreadable(out: &mut [u8]) -> usize {
+    text::put(out, 0, b"unreadable")
+}
+
+pub(crate) fn number(out: &mut [u8], at: usize, n: u64) -> usize {
+    let from = text::put(out, at, b" ");
+    text::put_decimal(out, from, n)
+}
+
+pub(crate) fn bytes(out: &mut [u8], at: usize, bytes: &[u8]) -> usize {
+    if bytes.len() == 0 {
+        return text::put(out, at, b" -");
+    }
+    let from = text::put(out, at, b" ");
+    text::put_hex(out, from, bytes)
+}
+
+fn family_number(family: Family) -> u64 {
+    match family {
+        Family::Small => 0,
+        Family::Large => 1,
+    }
+}
+
+// The four bytes of a word, most significant first.
+fn spell(w: u32) -> [u8; 4] {
+    [
+        (w / 16777216 % 256) as u8,
+        (w / 65536 % 256) as u8,
+        (w / 256 % 256) as u8,
+        (w % 256) as u8,
+    ]
+}
+
+fn chain(out: &mut [u8], at: usize, words: [u32; 16]) -> usize {
+    let mut to = text::put(out, at, b" ");
+    let mut i = 0;
+    while i < 16 {
+        let four = spell(words[i]);
+        to = text::put_hex(out, to, &four);
+        i += 1;
+    }
+    to
+}
+
+// What a digest is begun with: the family, m and the salt.
+fn settings(out: &mut [u8], at: usize, state: State) -> usize {
+    let family = state.family;
+    let salt = state.salt;
+    let a = number(out, at, family_number(family));
+    let b = number(out, a, state.m as u64);
+    bytes(out, b, &salt)
+}
+
+// How far a digest is: the chain, the counts and the held block.
+fn progress(out: &mut [u8], at: usize, state: State) -> usize {
+    let words = state.chain;
+    let covered = state.covered;
+    let held = state.held;
+    let a = chain(out, at, words);
+    let b = number(out, a, covered.0);
+    let c = number(out, b, state.compressed);
+    bytes(out, c, &held)
+}
+
+pub(crate) fn state(out: &mut [u8], at: usize, state: State) -> usize {
+    let to = settings(out, at, state);
+    progress(out, to, state)
+}
+
+// The refusal number or 0, the bytes covered and the blocks compressed.
+pub(crate) fn report(out: &mut [u8], at: usize, report: Report) -> usize {
+    match report {
+        Report::Covers(covered, compressed) => {
+            let a = number(out, at, 0);
+            let b = number(out, a, covered.0);
+            number(out, b, compressed)
+        }
+        Report::Refused(refusal) => {
+            let a = number(out, at, refusal.number() as u64);
+            text::put(out, a, b" 0 0")
+        }
+    }
+}
+
+fn verdict(out: &mut [u8], at: usize, verdict: Verdict) -> usize {
+    match verdict {
+        Verdict::NoClaim => text::put(out, at, b" noclaim"),
+        Verdict::Agrees => text::put(out, at, b" agrees"),
+        Verdict::Differs(register) => {
+            let to = text::put(out, at, b" differs");
+            number(out, to, register as u64)
+        }
+    }
+}
+
+// The refusal number or 0, the registers, the events, the blocks compressed and the verdict.
+pub(crate) fn checked(out: &mut [u8], at: usize, checked: Checked) -> usize {
+    match checked {
+        Checked::Accepted(registers, events, blocks, found) => {
+            let a = number(out, at, 0);
+            let b = number(out, a, registers as u64);
+            let c = number(out, b, events as u64);
+            let d = number(out, c, blocks as u64);
+            verdict(out, d, found)
+        }
+        Checked::Refused(refusal) => {
+            let a = number(out, at, refusal.number() as u64);
+            text::put(out, a, b" 0 0 0 noclaim")
+        }
+    }
+}
