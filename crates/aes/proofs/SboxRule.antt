@@ -3,7 +3,6 @@ use mathlib.Core.Path.{_≡_}
 use mathlib.Core.Bool.{Bool}
 use Prim.Native.Nat.{ℕ, zero, suc, _<_}
 use lib.Dec.{eqb, eqb→eq}
-use lib.ListN.{getD}
 use Rattle.aes.specs.Field.{mul, inverse}
 use Rattle.aes.specs.Sbox.{sboxOf, sboxTable, affine}
 use Rattle.aes.proofs.Table.{at, entry}

@@ -18,7 +18,7 @@ use Rattle.digest.specs.Bytes.{le, bytesOf, fill, allZero}
 use Rattle.digest.specs.Blocks.{wholeBlocks, lastBlock, lastBlocks, blocksOf, chainOver, digestOf}
 use Rattle.digest.specs.State.{allowed, familyOf, belongs, zeroPast, consistentOf, stateOf, heldOf, absorbed}
 use Rattle.digest.specs.Calls.{saltFits, beginAnswer, beginOf, addAnswer, addOf, reportBlocks, oneShotAnswer, oneShotOf, oneShotBuffer}
-use Rattle.digest.specs.Sequences.{Call, add, after, afterCall}
+use Rattle.digest.specs.Sequences.{add, after, afterCall}
 
 -- One that refuses everything: begin of 256 bits with an empty salt is accepted.
 pub begins : beginAnswer 256 [] ≡ Accepted

@@ -4,7 +4,7 @@ use Prim.Native.Nat.{ℕ, _+_, _*_, _/_, _≤_, _<_}
 use native.Mathlib.Omega.{arith}
 use Rattle.compress.specs.declared.family.Family.{Family}
 use Rattle.compress.specs.declared.family.Family.the-variants.{Small, Large}
-use Rattle.compress.specs.Family.{blockBytes, blockWords, nearDistance, saltQuads, runs, expandedWords}
+use Rattle.compress.specs.Family.{blockBytes, blockWords, nearDistance, saltQuads, runs}
 
 pub record Numbers (f : Family) : Type 0 where
   pub groups : 4 * (blockWords f / 4) ≡ blockWords f

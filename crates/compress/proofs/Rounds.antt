@@ -1,5 +1,5 @@
 -- One round more of each cipher, for any inner functions.
-use mathlib.Core.Path.{_≡_, refl, sym, ap, ap₂, _∙_}
+use mathlib.Core.Path.{_≡_}
 use mathlib.Core.List.{List}
 use Prim.Native.Nat.{ℕ, _+_}
 use Rattle.compress.specs.declared.cipher.Halves.{Halves}

@@ -1,7 +1,7 @@
 -- The compression functions (document 01, "Compression"). A chain has 16 words, a block 128 bytes and a salt 64, of which the small family uses the
 -- first 8, 64 and 32; the words past its chain are zero.
 use Prim.Native.Nat.{ℕ, _/_, _%_}
-use mathlib.Core.List.{List, [], _∷_, _++_}
+use mathlib.Core.List.{List, _∷_, _++_}
 use lib.ListN.{replicate}
 use Rattle.compress.specs.declared.family.Family.{Family}
 use Rattle.compress.specs.declared.family.Family.the-variants.{Small, Large}

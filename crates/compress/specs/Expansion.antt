@@ -1,6 +1,6 @@
 -- The message expansion (document 01, "Expansion, small" and "Expansion, large"): one definition over the family's numbers. A list of words grows
 -- at its end, and a word is read by its distance back from the next one.
-use Prim.Native.Nat.{ℕ, zero, suc, _+_, _-_, _*_, _/_, _%_}
+use Prim.Native.Nat.{ℕ, _+_, _-_, _*_, _/_, _%_}
 use mathlib.Core.Bool.{Bool, true, false}
 use mathlib.Core.List.{List, [], _∷_, _++_}
 use lib.ListN.{getD, length}

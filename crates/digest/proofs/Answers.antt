@@ -1,6 +1,6 @@
 -- The four calls' answers: where a test decides, and where none does.
 use mathlib.Core.Path.{_≡_, refl, ap, sym, _∙_}
-use mathlib.Core.Bool.{Bool, true, false, _&&_}
+use mathlib.Core.Bool.{true, false, _&&_}
 use mathlib.Core.List.{List, [], _∷_, _++_}
 use Prim.Native.Nat.{ℕ, _+_, _*_, _/_, _%_, _≤_, _<_}
 use native.Mathlib.Omega.{arith}
@@ -10,7 +10,6 @@ use lib.ListN.{length, take, drop, replicate, length-append}
 use lib.Seq.{take-take, length-take-le, drop-nil}
 use borrow.Author.Tests.{leb-true, lt-ltb, le-ltb}
 use Rattle.compress.specs.declared.family.Family.{Family}
-use Rattle.compress.specs.Family.{padLimit}
 use Rattle.compress.specs.Compression.{startOf}
 use Rattle.digest.specs.declared.refusal.Refusal.{Refusal}
 use Rattle.digest.specs.declared.refusal.Refusal.the-variants.{DigestLength, SaltSize, MessageLimit, StateInconsistent, BufferShort}
@@ -23,7 +22,7 @@ use Rattle.digest.specs.declared.calls.Report.the-variants as report
 use Rattle.digest.specs.declared.calls.Finished.{Finished}
 use Rattle.digest.specs.Refusal.{ifAccepted}
 use Rattle.digest.specs.Bytes.{le, bytesOf, fill}
-use Rattle.digest.specs.Blocks.{pick, wholeBlocks, lastBlocks, chainOver}
+use Rattle.digest.specs.Blocks.{wholeBlocks, chainOver}
 use Rattle.digest.specs.State.{limit, allowed, familyOf, consistentOf, zeroState, stateOf, heldOf, absorbed}
 use Rattle.digest.specs.Calls.{saltFits, beginAnswer, beginOf, addAnswer, addOf, closing, stateDigest, finishAnswer, finishOf, finishBuffer, oneShotAnswer, oneShotOf, oneShotBuffer}
 use Rattle.digest.proofs.Sizes.{block-pos}
@@ -31,6 +30,7 @@ use Rattle.digest.proofs.Filling.{and-left, and-right, le-length, fill-
 use Rattle.digest.proofs.Blocking.{chain-length}
 use Rattle.digest.proofs.Soundness.{Sound, sound}
 use Rattle.digest.proofs.Cuts.{start-consistent, state-absorbed}
+use Rattle.digest.proofs.Counters.{last-cases}
 use Rattle.digest.proofs.Joined.{finish-one-shot}
 
 pub start-made : (m : ℕ) (salt : List ℕ) {f : Family} {chain filled : List ℕ} → f ≡ familyOf m → chain ≡ startOf f m → filled ≡ fill 64 salt
@@ -88,12 +88,9 @@ bytes-length (w ∷ ws) = omega (arith, length-append (le 4 w) (bytesOf ws), le-
 
 -- finish compresses one block or two
 pub closing-max : (s : State) → length (closing s) ≤ 2
-unfolding closing lastBlocks
-closing-max s = by (leb (length (heldOf s)) (padLimit (s .family))) _ _ _
-  where
-    by : (t : Bool) (x y z : ℕ × List ℕ) → length (pick t (x ∷ []) (y ∷ z ∷ [])) ≤ 2
-    by true x y z = omega arith
-    by false x y z = omega arith
+unfolding closing
+closing-max s =
+    last-cases (λ (l : List (ℕ × List ℕ)). length l ≤ 2) (s .family) (s .m) (s .covered .0) (heldOf s) (λ h. omega arith) (λ h. omega arith)
 
 pub count-max : (s : State) → Sound s → s .compressed ≤ limit
 count-max s ok = omega (arith, ok .within, ok .whole, le-mul-of-pos-right (s .compressed) (block-pos (s .family)))

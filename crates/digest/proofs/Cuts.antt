@@ -1,14 +1,14 @@
 -- A state that takes in more bytes, in whatever pieces they come, and the state that all bytes so far give.
 use mathlib.Core.Path.{_≡_, refl, ap, sym, _∙_}
-use mathlib.Core.Bool.{Bool, true, false, _||_}
+use mathlib.Core.Bool.{Bool, true, false}
 use mathlib.Core.List.{List, [], _++_, append-assoc}
 use Prim.Native.Nat.{ℕ, _+_, _-_, _*_, _/_, _%_, _≤_, _<_}
 use native.Mathlib.Omega.{arith}
 use native.Mathlib.Nat.{div-add-mod', mod-lt, mod-eq-of-lt, mul-add-mod-self-right, mul-add-div-right, zero-mod, zero-div, zero-mul, zero-add}
-use lib.Dec.{eqb, leb}
+use lib.Dec.{leb}
 use lib.ListN.{length, drop, length-append}
-use lib.Seq.{drop-append-le, drop-drop, length-take-le}
-use borrow.Author.Tests.{eqb-true, leb-false, lt-ltb}
+use lib.Seq.{drop-append-le, drop-drop}
+use borrow.Author.Tests.{leb-false, lt-ltb}
 use Rattle.compress.specs.declared.family.Family.{Family}
 use Rattle.compress.specs.declared.family.Family.the-variants.{Small, Large}
 use Rattle.compress.specs.Family.{blockBytes, chainWords, saltBytes}

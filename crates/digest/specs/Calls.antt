@@ -2,15 +2,13 @@
 use mathlib.Core.Bool.{Bool, not, _||_}
 use mathlib.Core.List.{List, [], _∷_, _++_}
 use Prim.Native.Nat.{ℕ, _+_, _/_}
-use lib.Dec.{eqb, leb, ltb}
+use lib.Dec.{eqb, ltb}
 use lib.ListN.{length, take, drop}
 use Rattle.compress.specs.declared.family.Family.{Family}
 use Rattle.compress.specs.Family.{saltBytes}
-use Rattle.digest.specs.declared.refusal.Refusal.{Refusal}
 use Rattle.digest.specs.declared.refusal.Refusal.the-variants.{DigestLength, SaltSize, MessageLimit, StateInconsistent, BufferShort}
 use Rattle.digest.specs.declared.refusal.Answer.{Answer}
 use Rattle.digest.specs.declared.refusal.Answer.the-variants.{Accepted, Refused}
-use Rattle.digest.specs.declared.state.Length.{Length}
 use Rattle.digest.specs.declared.state.State.{State}
 use Rattle.digest.specs.declared.calls.Step.{Step}
 use Rattle.digest.specs.declared.calls.Report.{Report}

@@ -3,8 +3,6 @@ use mathlib.Core.Path.{_≡_}
 use mathlib.Core.List.{List, [], _∷_, _++_}
 use Prim.Native.Nat.{ℕ}
 use Rattle.digest.specs.declared.state.State.{State}
-use Rattle.digest.specs.declared.calls.Step.{Step}
-use Rattle.digest.specs.declared.calls.Finished.{Finished}
 use Rattle.digest.specs.Refusal.{ifAccepted}
 use Rattle.digest.specs.Calls.{addAnswer, addOf, finishOf}
 

@@ -1,6 +1,6 @@
 -- The running state (document 01, "The running state").
 use mathlib.Core.Bool.{Bool, _&&_}
-use mathlib.Core.List.{List, [], _++_}
+use mathlib.Core.List.{List, _++_}
 use Prim.Native.Nat.{ℕ, _+_, _-_, _*_, _/_, _%_, _^_}
 use lib.Dec.{eqb, leb, ltb}
 use lib.ListN.{length, take, drop, replicate}
@@ -8,7 +8,6 @@ use Rattle.compress.specs.declared.family.Family.{Family}
 use Rattle.compress.specs.declared.family.Family.the-variants.{Small, Large}
 use Rattle.compress.specs.Family.{blockBytes, chainWords, saltBytes}
 use Rattle.compress.specs.Compression.{startOf}
-use Rattle.digest.specs.declared.state.Length.{Length}
 use Rattle.digest.specs.declared.state.State.{State}
 use Rattle.digest.specs.Bytes.{fill, allZero}
 use Rattle.digest.specs.Blocks.{pick, wholeBlocks, chainOver}

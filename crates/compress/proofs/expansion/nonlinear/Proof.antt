@@ -1,13 +1,12 @@
 -- `nonlinear` meets its contract: a turn adds a group, under the salt's quads in turn.
-use mathlib.Core.Path.{_≡_, refl, ap, sym, _∙_}
-use Prim.Native.Nat.{ℕ, _+_, _-_, _*_, _/_, _%_, _≤_, _<_}
+use mathlib.Core.Path.{_≡_, refl, _∙_}
+use Prim.Native.Nat.{_+_, _-_, _*_, _/_, _≤_, _<_}
 use native.Mathlib.Nat.{add-zero, mod-lt}
 use native.Mathlib.Omega.{arith}
 use denote.Ref.{now}
-use mathlib.Core.List.{List}
 use lib.ListN.{length, take}
 use borrow.Author.Needs.{needs}
-use Rattle.compress.specs.Family.{blockWords, saltQuads}
+use Rattle.compress.specs.Family.{blockWords}
 use Rattle.compress.specs.Words.{times}
 use Rattle.compress.specs.Expansion.{places, nonlinearRun}
 use Rattle.compress.proofs.Growing.{nonlinear-step}

@@ -1,0 +1,20 @@
+-- The place that print answers lies in the buffer.
+use borrow.Author.Needs.{needs}
+use Rattle.printout.proofs.Lending.{counted}
+use Rattle.bootchecks.proofs.print_check.Statement.{statement}
+use Rattle.bootchecks.proofs.print_check.Tie as tie
+
+pub print-check-spec : {M : Type 1} → statement M
+print-check-spec =
+    tie.close
+    (tie.spec
+    (λ c. search needs)
+    (λ c κs. search needs)
+    (λ c. search needs)
+    (λ c. search needs)
+    (λ c. search needs)
+    (λ c κs. search needs)
+    (λ c. counted _ _ (c .before .print .ensures) .0)
+    (λ c. counted _ _ (c .before .before .print .ensures) .1)
+    (λ c κs. search needs)
+    (λ c. search needs))

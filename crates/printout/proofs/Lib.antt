@@ -1,0 +1,5 @@
+pub mod Writing
+pub mod Lengths
+pub mod Bounds
+pub mod Lending
+pub mod Example

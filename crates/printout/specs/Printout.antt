@@ -1,0 +1,63 @@
+-- The text of one check (document 01, "Cases at the edges"), in ASCII. Numbers are decimal.
+use mathlib.Core.List.{List, [], _∷_, _++_}
+use Prim.Native.Nat.{ℕ, zero, suc}
+use lib.ListN.{replicate}
+use Rattle.digest.specs.Refusal.{refusalNumber}
+use Rattle.bootlog.specs.declared.checking.Verdict.{Verdict}
+use Rattle.bootlog.specs.declared.checking.Verdict.the-variants.{NoClaim, Agrees, Differs}
+use Rattle.bootlog.specs.declared.checking.Checked.{Checked}
+use Rattle.bootlog.specs.declared.checking.Checked.the-variants.{Accepted, Refused}
+use Rattle.bootlog.specs.Replay.{registerAt}
+use Rattle.bootlog.specs.Check.{checkOf, checkBuffer}
+use Rattle.text.specs.Digits.{decimalOf, hexOf}
+
+-- a space, and a line feed
+abbrev pub space : List ℕ
+space = 32 ∷ []
+
+abbrev pub feed : List ℕ
+feed = 10 ∷ []
+
+-- "accepted ", "refused ", "noclaim", "agrees", "differs "
+abbrev pub accepted : List ℕ
+accepted = 97 ∷ 99 ∷ 99 ∷ 101 ∷ 112 ∷ 116 ∷ 101 ∷ 100 ∷ space
+
+abbrev pub refused : List ℕ
+refused = 114 ∷ 101 ∷ 102 ∷ 117 ∷ 115 ∷ 101 ∷ 100 ∷ space
+
+abbrev pub noclaim : List ℕ
+noclaim = 110 ∷ 111 ∷ 99 ∷ 108 ∷ 97 ∷ 105 ∷ 109 ∷ []
+
+abbrev pub agrees : List ℕ
+agrees = 97 ∷ 103 ∷ 114 ∷ 101 ∷ 101 ∷ 115 ∷ []
+
+abbrev pub differs : List ℕ
+differs = 100 ∷ 105 ∷ 102 ∷ 102 ∷ 101 ∷ 114 ∷ 115 ∷ space
+
+-- A verdict: noclaim, agrees, or "differs 3" for register 3.
+unfoldable pub verdictText : Verdict → List ℕ
+verdictText NoClaim = noclaim
+verdictText Agrees = agrees
+verdictText (Differs r) = differs ++ decimalOf r
+
+-- A register's line: number, value in lower-case hex, byte 0 first.
+unfoldable pub registerLine : List ℕ → ℕ → List ℕ
+registerLine bank r = decimalOf r ++ (space ++ (hexOf (registerAt bank r) ++ feed))
+
+-- Then one line per register from 0 up: the lines of the first n.
+unfoldable pub registerLines : List ℕ → ℕ → List ℕ
+registerLines bank zero = []
+registerLines bank (suc n) = registerLines bank n ++ registerLine bank n
+
+-- a number and the space behind it
+unfoldable pub spaced : ℕ → List ℕ
+spaced n = decimalOf n ++ space
+
+-- Line 1: the word accepted, R, N, blocks compressed, verdict; then the registers. A refusal is the single line "refused 6" with its number.
+unfoldable pub textOf : Checked → List ℕ → List ℕ
+textOf (Accepted r n b v) bank = accepted ++ (spaced r ++ (spaced n ++ (spaced b ++ (verdictText v ++ (feed ++ registerLines bank r)))))
+textOf (Refused x) bank = refused ++ (decimalOf (refusalNumber x) ++ feed)
+
+-- the text of a log's check; the bank has room for 24 registers, the most that a log has
+unfoldable pub printoutOf : List ℕ → List ℕ
+printoutOf log = textOf (checkOf log 768) (checkBuffer log (replicate 768 0))

@@ -1,0 +1,117 @@
+// The text of one check: what the programs print.
+ghost use mathlib.Core.Path.{_≡_};
+ghost use Prim.Native.Nat.{_+_, _*_, _≤_};
+ghost use lib.ListN.{length};
+ghost use Rattle.bootlog.specs.Check.{checkRegisters};
+ghost use Rattle.text.specs.Digits.{decimalOf, hexOf};
+ghost use Rattle.text.specs.Place.{placed, placeAfter};
+ghost use Rattle.printout.specs.Printout.{verdictText, registerLine, registerLines, spaced, textOf, printoutOf};
+ghost use Rattle.printout.specs.Wrote.{Room, Wrote};
+use bootlog::Checked;
+use bootlog::Verdict;
+
+// The calls of text, where there is room.
+fn word(out: &mut [u8], at: usize, bytes: &[u8]) -> usize
+    requires { ⌜ Room (now out) at (now bytes) ⌝ }
+    ensures { λ r. ⌜ Wrote (now (out .entry)) at (now (bytes .entry)) (now (out .exit)) r ⌝ }
+{
+    text::put(out, at, bytes)
+}
+
+fn number(out: &mut [u8], at: usize, n: usize) -> usize
+    requires { ⌜ Room (now out) at (decimalOf n) ⌝ }
+    ensures { λ r. ⌜ Wrote (now (out .entry)) at (decimalOf n) (now (out .exit)) r ⌝ }
+{
+    text::put_decimal(out, at, n as u64)
+}
+
+fn hex(out: &mut [u8], at: usize, bytes: &[u8]) -> usize
+    requires { ⌜ Room (now out) at (hexOf (now bytes)) ⌝ }
+    ensures { λ r. ⌜ Wrote (now (out .entry)) at (hexOf (now (bytes .entry))) (now (out .exit)) r ⌝ }
+{
+    text::put_hex(out, at, bytes)
+}
+
+fn spaced_number(out: &mut [u8], at: usize, n: usize) -> usize
+    requires { ⌜ Room (now out) at (spaced n) ⌝ }
+    ensures { λ r. ⌜ Wrote (now (out .entry)) at (spaced n) (now (out .exit)) r ⌝ }
+{
+    let behind = number(out, at, n);
+    word(out, behind, b" ")
+}
+
+fn verdict(out: &mut [u8], at: usize, found: Verdict) -> usize
+    requires { ⌜ Room (now out) at (verdictText found) ⌝ }
+    ensures { λ r. ⌜ Wrote (now (out .entry)) at (verdictText found) (now (out .exit)) r ⌝ }
+{
+    match found {
+        Verdict::NoClaim => word(out, at, b"noclaim"),
+        Verdict::Agrees => word(out, at, b"agrees"),
+        Verdict::Differs(register) => {
+            let behind = word(out, at, b"differs ");
+            number(out, behind, register)
+        }
+    }
+}
+
+fn line(out: &mut [u8], at: usize, bank: &[u8], register: usize) -> usize
+    requires { ⌜ Room (now out) at (registerLine (now bank) register) ⌝ }
+    requires { ⌜ 32 * register + 32 ≤ length (now bank) ⌝ }
+    ensures { λ r. ⌜ Wrote (now (out .entry)) at (registerLine (now (bank .entry)) register) (now (out .exit)) r ⌝ }
+{
+    let from = 32 * register;
+    let to = from + 32;
+    let a = number(out, at, register);
+    let b = word(out, a, b" ");
+    let c = hex(out, b, &bank[from..to]);
+    word(out, c, b"\n")
+}
+
+fn lines(out: &mut [u8], at: usize, bank: &[u8], count: usize) -> usize
+    requires { ⌜ Room (now out) at (registerLines (now bank) count) ⌝ }
+    requires { ⌜ 32 * count ≤ length (now bank) ⌝ }
+    ensures { λ r. ⌜ Wrote (now (out .entry)) at (registerLines (now (bank .entry)) count) (now (out .exit)) r ⌝ }
+{
+    let mut behind = at;
+    let mut register = 0;
+    while register < count {
+        behind = line(out, behind, bank, register);
+        register += 1;
+    }
+    behind
+}
+
+fn compose(out: &mut [u8], bank: &[u8], checked: Checked) -> usize
+    requires { ⌜ Room (now out) 0 (textOf checked (now bank)) ⌝ }
+    requires { ⌜ 32 * checkRegisters checked ≤ length (now bank) ⌝ }
+    ensures { λ r. ⌜ Wrote (now (out .entry)) 0 (textOf checked (now (bank .entry))) (now (out .exit)) r ⌝ }
+{
+    match checked {
+        Checked::Accepted(registers, events, blocks, found) => {
+            let a = word(out, 0, b"accepted ");
+            let b = spaced_number(out, a, registers);
+            let c = spaced_number(out, b, events);
+            let d = spaced_number(out, c, blocks);
+            let e = verdict(out, d, found);
+            let f = word(out, e, b"\n");
+            lines(out, f, bank, registers)
+        }
+        Checked::Refused(refusal) => {
+            let a = word(out, 0, b"refused ");
+            let b = number(out, a, refusal.number() as usize);
+            word(out, b, b"\n")
+        }
+    }
+}
+
+// Checks a log and puts the check's text at the buffer's front: all of it, or nothing where it does not fit.
+pub fn print(log: &[u8], out: &mut [u8]) -> usize
+    ensures place { λ r. ⌜ r ≡ placeAfter (length (now (out .entry))) 0 (printoutOf (now (log .entry))) ⌝ }
+    ensures buffer { λ r. ⌜ now (out .exit) ≡ placed (now (out .entry)) 0 (printoutOf (now (log .entry))) ⌝ }
+{
+    let mut bank = [0u8; 768];
+    let checked = bootlog::check(log, &mut bank);
+    let mut whole = [0u8; 2048];
+    let n = compose(&mut whole, &bank, checked);
+    text::put(out, 0, &whole[..n])
+}
