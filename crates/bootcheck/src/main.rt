@@ -3,7 +3,7 @@ use libc::STDIN_FILENO;
 use libc::STDOUT_FILENO;
 
 // One byte more than the longest log has: what is longer is refused by it.
-const MOST: usize = 38441;
+const MOST: usize = bootlog::LONGEST + 1;
 
 fn main() {
     let mut log = [0u8; MOST];

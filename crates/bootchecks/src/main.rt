@@ -2,7 +2,7 @@
 use libc::STDOUT_FILENO;
 
 // One byte more than the longest log has: what is longer is refused by it.
-const MOST: usize = 38441;
+const MOST: usize = bootlog::LONGEST + 1;
 
 fn print_check(file: i32) {
     let mut log = [0u8; MOST];

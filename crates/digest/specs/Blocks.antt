@@ -1,5 +1,4 @@
 -- The list of (counter, block) that a message is compressed over (document 01, "Padding and counter"), and the digest. All over the family's numbers.
-use mathlib.Core.Bool.{Bool, true, false}
 use mathlib.Core.List.{List, [], _∷_, _++_}
 use Prim.Native.Nat.{ℕ, zero, suc, _+_, _*_, _/_}
 use lib.Dec.{eqb, leb}
@@ -7,12 +6,9 @@ use lib.ListN.{length, take, drop}
 use Rattle.compress.specs.declared.family.Family.{Family}
 use Rattle.compress.specs.Family.{blockBytes, lengthBytes, padLimit}
 use Rattle.compress.specs.Counter.{counterOf}
+pub use Rattle.compress.specs.Expansion.{pick}
 use Rattle.compress.specs.Compression.{compressOf, startOf}
 use Rattle.digest.specs.Bytes.{le, bytesOf, fill}
-
-abbrev pub pick : {A : Type 0} → Bool → A → A → A
-pick true a b = a
-pick false a b = b
 
 -- The first n blocks of b bytes of xs, where done bytes went before xs. The counter is bits so far including this block.
 unfoldable pub wholeBlocks : ℕ → ℕ → ℕ → List ℕ → List (ℕ × List ℕ)
