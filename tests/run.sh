@@ -1,23 +1,43 @@
 #!/usr/bin/env bash
-# All tests. The last command is `rt ci`, whose last line is 'N passed, M failed'; anything before it stops the script when it fails.
-set -eu
+# All tests. The last line is rt ci's 'N passed, M failed'; whatever comes before it stops the script when it fails.
+set -euo pipefail
 cd "$(dirname "$0")/.."
 command -v rustc >/dev/null || { apt-get update -qq && apt-get install -y -qq rustc; } >/dev/null
 made=$(mktemp -d)
 trap 'rm -rf "$made"' EXIT
 
+# No part is missing: tests/expected.txt says how many there are.
+expected() { sed -n "s/^$1: *//p" tests/expected.txt; }
+have() {
+    want=$(expected "$1")
+    [ -n "$want" ] && [ "$2" -ge "$want" ] && return
+    echo "tests/run.sh: $2 $1, but tests/expected.txt has '$want'" >&2
+    exit 1
+}
+have crates "$(grep -c '^[a-z]' crates.txt)"
+have edits "$(find crates -path '*/must-fail/*.edit' | wc -l)"
+have programs "$(find crates -path '*/src/main.rt' | wc -l)"
+have calls "$(grep -cvE '^(state|unreadable)( |$)' crates/second_opinion/stdout)"
+have lines "$(grep -cE '^(state|unreadable)( |$)' crates/second_opinion/stdout)"
+have samples "$(find samples -name '*.log' | wc -l)"
+
 # The second program meets the printed values, and what it made for the first one's runs is what is committed.
 rustc -O --edition 2021 tests/second/main.rs -o "$made/second"
-"$made/second" selftest
+"$made/second" selftest | tee "$made/selftest"
+have values "$(sed -n 's/^selftest: \([0-9]*\) values met$/\1/p' "$made/selftest")"
 "$made/second" cases | cmp - crates/second_opinion/stdin
 "$made/second" expect <crates/second_opinion/stdin | cmp - crates/second_opinion/stdout
 { "$made/second" printed; "$made/second" ruled; } | cmp - crates/printed_values/stdout
-"$made/second" samples "$made"
-for log in samples/*.log; do
-    name=$(basename "$log")
-    cmp "$made/$name" "$log"
-    cmp "$log" "crates/bootchecks/data/$name"
-done
+mapfile -t words <crates/shavite3sum/args
+"$made/second" sum "${words[@]}" <crates/shavite3sum/stdin | cmp - crates/shavite3sum/stdout
+
+# The samples are those that the second program makes, no more and no fewer, here and where the first one's run finds them.
+mkdir "$made/samples"
+"$made/second" samples "$made/samples"
+diff -r "$made/samples" samples
+diff -r "$made/samples" crates/bootchecks/data
+diff <(sort crates/bootchecks/args) <(cd samples && ls | sort)
+cmp samples/smallest.log crates/bootcheck/stdin
 "$made/second" print <samples/smallest.log | cmp - crates/bootcheck/stdout
 while read -r name; do
     echo "$name"
@@ -25,4 +45,9 @@ while read -r name; do
 done <crates/bootchecks/args | cmp - crates/bootchecks/stdout
 
 rt fmt --check
-rt ci
+status=0
+rt ci 2>&1 | tee "$made/ci" || status=$?
+passed=$(sed -n '$s/^\([0-9]*\) passed, 0 failed$/\1/p' "$made/ci")
+have passed "${passed:-0}"
+tail -n 1 "$made/ci"
+exit "$status"

@@ -110,7 +110,8 @@ fn number64(word: &str) -> Option<u64> {
     word.parse().ok()
 }
 
-fn number16(word: &str) -> Option<u16> {
+/// The same, at most 65,535.
+pub fn number16(word: &str) -> Option<u16> {
     u16::try_from(number64(word)?).ok()
 }
 

@@ -13,14 +13,39 @@ mod printed;
 mod random;
 mod samples;
 mod selftest;
+mod sum;
 
-use std::io::{Read, Write};
+use std::io::{Error, ErrorKind, Read, Write};
 use std::process::ExitCode;
 
+const USAGE: &str = "usage: selftest | cases | expect | samples DIR | print | printed | ruled | \
+    sum [M [SALT-HEX]]";
+
 fn main() -> ExitCode {
-    let words: Vec<String> = std::env::args().skip(1).collect();
-    let words: Vec<&str> = words.iter().map(String::as_str).collect();
-    let done = match words[..] {
+    // `args` would panic on a word that is not text, and the exit code would not be 1.
+    let words: Result<Vec<String>, _> =
+        std::env::args_os().skip(1).map(|word| word.into_string()).collect();
+    let done = match words {
+        Ok(words) => obey(&words.iter().map(String::as_str).collect::<Vec<_>>()),
+        Err(word) => Err(unreadable(&format!("not text: {word:?}"))),
+    };
+    match done {
+        Ok(true) => ExitCode::SUCCESS,
+        Ok(false) => ExitCode::FAILURE,
+        Err(error) => {
+            eprintln!("{error}");
+            ExitCode::FAILURE
+        }
+    }
+}
+
+fn unreadable(why: &str) -> Error {
+    Error::new(ErrorKind::InvalidInput, why)
+}
+
+/// Does what the mode asks; whether all is well.
+fn obey(words: &[&str]) -> std::io::Result<bool> {
+    match *words {
         ["selftest"] => {
             let (text, right) = selftest::run();
             say(&text).map(|()| right)
@@ -35,17 +60,14 @@ fn main() -> ExitCode {
             .map(|()| true),
         ["printed"] => say(&printed::table_text()).map(|()| true),
         ["ruled"] => say(&selftest::ruled_text()).map(|()| true),
-        _ => {
-            eprintln!("usage: selftest | cases | expect | samples DIR | print | printed | ruled");
-            Ok(false)
+        ["sum", ref rest @ ..] => {
+            // The words first: where they cannot be read, no input is waited for.
+            let (m, salt) = sum::asked(rest).map_err(unreadable)?;
+            hear(u64::MAX).and_then(|input| say(&sum::text(m, &salt, &input))).map(|()| true)
         }
-    };
-    match done {
-        Ok(true) => ExitCode::SUCCESS,
-        Ok(false) => ExitCode::FAILURE,
-        Err(error) => {
-            eprintln!("{error}");
-            ExitCode::FAILURE
+        _ => {
+            eprintln!("{USAGE}");
+            Ok(false)
         }
     }
 }

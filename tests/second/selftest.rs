@@ -4,9 +4,11 @@ use crate::digest::{
     add, begin, closing_blocks, finish, one_shot, whole_list, write_digest, State,
 };
 use crate::hash::{compress, field_product, master_value, starting_chain, Family, SBOX};
+use crate::lines::hex;
 use crate::log::printed_check;
 use crate::printed::{salt_byte, Message, What, TABLE};
 use crate::samples::smallest;
+use crate::sum;
 
 /// Counters that document 01 lists (marked P there): family, bytes, counters.
 const COUNTERS: [(Family, usize, &[u128]); 12] = [
@@ -30,6 +32,19 @@ const SMALLEST_PRINT: &str = "accepted 1 0 0 noclaim\n\
 
 /// First word of the unsalted 256-bit million-A digest with counter 0 on the padding-only block.
 const MILLION_A_BY_RULE: u32 = 0x0738_AC34;
+
+/// Words that `sum` cannot read.
+const SUM_UNREADABLE: [&[&str]; 9] = [
+    &[""],
+    &["+8"],
+    &["100h"],
+    &["65536"],
+    &["256", "0"],
+    &["256", "0g"],
+    &["256", "-"],
+    &["256", "0 00"],
+    &["256", "", ""],
+];
 
 struct Tally {
     met: usize,
@@ -70,6 +85,7 @@ pub fn run() -> (String, bool) {
     tally.value("the 40-byte log", printed_check(&smallest()) == SMALLEST_PRINT);
     tally.value("million-A by the rule", million_a_by_rule(256, &[])[0] == MILLION_A_BY_RULE);
     tally.value("cuts against whole messages", cuts_agree());
+    sum_values(&mut tally);
     let mut text: String =
         tally.missed.iter().map(|label| format!("selftest: not met: {label}\n")).collect();
     text += &format!("selftest: {} values met\n", tally.met);
@@ -156,6 +172,41 @@ fn cuts_agree() -> bool {
                 }
                 let mut out = [0; 64];
                 finish(&state, &mut out) == whole_report && out == whole
+            })
+        })
+    })
+}
+
+/// The line of `sum`; none where the words cannot be read.
+fn sum_line(words: &[&str], input: &[u8]) -> Option<String> {
+    sum::asked(words).ok().map(|(m, salt)| sum::text(m, &salt, input))
+}
+
+/// The `sum` mode: its first printed word, two refusals, its words, its turns.
+fn sum_values(tally: &mut Tally) {
+    let empty = sum_line(&[], b"").unwrap_or_default();
+    let right = empty.starts_with("4ae7a5f7") && empty.ends_with(" 0 1\n");
+    tally.value("sum of the empty input", right);
+    tally.value("sum at 257 bits", sum_line(&["257"], b"A").as_deref() == Some("refused 1\n"));
+    let short = sum_line(&["256", &"00".repeat(31)], b"A");
+    tally.value("sum with a salt of 31 bytes", short.as_deref() == Some("refused 2\n"));
+    tally.value("words of sum", SUM_UNREADABLE.iter().all(|words| sum::asked(words).is_err()));
+    tally.value("turns of sum against whole messages", sum_turns_agree());
+}
+
+/// Lengths at the ends of turns against one-shot, both families, salted in either case of letters
+/// and not.
+fn sum_turns_agree() -> bool {
+    let message: Vec<u8> = (0..3 * sum::TURN).map(|i| (i * i / 7 + 171) as u8).collect();
+    [(256, 0), (200, 32), (512, 0), (264, 64)].iter().all(|&(m, salt_size)| {
+        let salt = &message[..salt_size];
+        let lower: String = salt.iter().map(|b| format!("{b:02x}")).collect();
+        [1, 999, 1000, 1001, 2000, 2431, 3000].iter().all(|&size| {
+            let mut whole = vec![0; m as usize / 8];
+            let r = one_shot(m, salt, &message[..size], &mut whole);
+            let line = format!("{} {} {}\n", hex(&whole), r.covered, r.compressed);
+            [lower.clone(), lower.to_uppercase()].iter().all(|word| {
+                sum_line(&[&m.to_string(), word], &message[..size]).as_ref() == Some(&line)
             })
         })
     })

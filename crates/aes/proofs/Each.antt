@@ -1,6 +1,6 @@
 -- A function put at the first r places of a list, one store after the other.
 use mathlib.Core.Path.{_≡_, refl, ap}
-use mathlib.Core.List.{List, [], _∷_}
+use mathlib.Core.List.{List, [], _∷_, map}
 use Prim.Native.Nat.{ℕ, zero, suc, _+_, _<_}
 use native.Mathlib.Nat.{le-of-suc-le-suc, not-suc-le-zero}
 use native.Mathlib.Numerals.{add-one}
@@ -20,7 +20,7 @@ module _ {A : Type 0} (d : A) (f : A → A) where
   pub each-more : (r : ℕ) (xs : List A) → r < length xs → set (each r xs) r (f (getD (each r xs) r d)) ≡ each (r + 1) xs
   each-more r xs h = rw add-one (more r xs h)
 
-  pub each-length : (r : ℕ) (xs : List A) → length (each r xs) ≡ length xs
-  each-length zero xs = refl
-  each-length (suc r) [] = refl
-  each-length (suc r) (x ∷ xs) = ap suc (each-length r xs)
+  -- at every place
+  pub each-all : (xs : List A) → each (length xs) xs ≡ map f xs
+  each-all [] = refl
+  each-all (x ∷ xs) = ap (λ (l : List A). f x ∷ l) (each-all xs)

@@ -1,4 +1,2 @@
-pub mod Outcome
 pub mod Field
-pub mod Sbox
 pub mod Round

@@ -1,37 +1,69 @@
 // One round of AES on four columns of four bytes, by value: FIPS 197's round, a function a step.
 ghost use mathlib.Core.Path.{_≡_};
+ghost use mathlib.Core.List.{map};
+ghost use Prim.Native.Nat.{_+_, _*_};
 ghost use lib.ListN.{getD};
+ghost use Rattle.sbox.specs.Sbox.{sboxOf};
 ghost use lib.Bits.{bitXor};
 ghost use Rattle.aes.specs.Field.{xtimeOf};
-ghost use Rattle.aes.specs.Sbox.{sboxOf};
-ghost use Rattle.aes.specs.Round.{four, subBytes, shiftRows, mixByte, mixColumns, addRoundKey, aesRound};
+ghost use Rattle.aes.specs.Round.{four, cellsOf, bytesIn, subBytes, shiftRows, mixByte, mixColumns, addRoundKey, aesRound};
 
-mod sbox;
-
-// Steps by column are loops: what has one call site is put there by the compiler, the S-box too.
-fn sub_column(a: [u8; 4]) -> [u8; 4]
-    ensures { λ b. ⌜ b ≡ four (λ r. sboxOf (getD a r 0)) ⌝ }
+// A state's bytes in one row, and back.
+fn flat(s: [[u8; 4]; 4]) -> [u8; 16]
+    ensures { λ t. ⌜ t ≡ bytesIn s ⌝ }
 {
-    let mut b = a;
-    let mut r = 0;
-    while r < 4 {
-        b[r] = sbox::sub(b[r]);
-        r += 1;
+    let a = s[0];
+    let b = s[1];
+    let c = s[2];
+    let d = s[3];
+    [
+        a[0],
+        a[1],
+        a[2],
+        a[3],
+        b[0],
+        b[1],
+        b[2],
+        b[3],
+        c[0],
+        c[1],
+        c[2],
+        c[3],
+        d[0],
+        d[1],
+        d[2],
+        d[3],
+    ]
+}
+
+fn in_columns(t: [u8; 16]) -> [[u8; 4]; 4]
+    ensures { λ s. ⌜ s ≡ cellsOf (λ r c. getD t (4 * c + r) 0) ⌝ }
+{
+    [
+        [t[0], t[1], t[2], t[3]],
+        [t[4], t[5], t[6], t[7]],
+        [t[8], t[9], t[10], t[11]],
+        [t[12], t[13], t[14], t[15]],
+    ]
+}
+
+// The S-box has one call site, in a loop, so that the compiler puts it there; the same holds for the columns' mixing below.
+fn sub_each(bytes: [u8; 16]) -> [u8; 16]
+    ensures { λ t. ⌜ t ≡ map sboxOf bytes ⌝ }
+{
+    let mut t = bytes;
+    let mut i = 0;
+    while i < 16 {
+        t[i] = sbox::sub(t[i]);
+        i += 1;
     }
-    b
+    t
 }
 
 fn sub_bytes(s: [[u8; 4]; 4]) -> [[u8; 4]; 4]
     ensures { λ t. ⌜ t ≡ subBytes s ⌝ }
 {
-    let mut t = s;
-    let mut c = 0;
-    while c < 4 {
-        let next = sub_column(t[c]);
-        t[c] = next;
-        c += 1;
-    }
-    t
+    in_columns(sub_each(flat(s)))
 }
 
 fn shift_rows(s: [[u8; 4]; 4]) -> [[u8; 4]; 4]

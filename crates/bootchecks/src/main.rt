@@ -1,17 +1,6 @@
 // Prints, for each file that an argument names, the name and the check of the log in the file.
 use libc::STDOUT_FILENO;
 
-// One byte more than the longest log has: what is longer is refused by it.
-const MOST: usize = bootlog::LONGEST + 1;
-
-fn print_check(file: i32) {
-    let mut log = [0u8; MOST];
-    let size = io::read_full(file, &mut log);
-    let mut lines = [0u8; 2048];
-    let count = printout::print(&log[..size], &mut lines);
-    io::write_all(STDOUT_FILENO, &lines[..count]);
-}
-
 fn check_file(name: &[u8]) {
     let file = os::open_read(name);
     if file < 0 {
@@ -20,7 +9,7 @@ fn check_file(name: &[u8]) {
     }
     io::write_all(STDOUT_FILENO, name);
     io::write_all(STDOUT_FILENO, b"\n");
-    print_check(file);
+    printing::print_check(file);
     libc::close(file);
 }
 

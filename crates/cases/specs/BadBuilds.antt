@@ -4,21 +4,25 @@ use mathlib.Core.List.{List, [], _∷_}
 use Prim.Native.Nat.{ℕ, _+_}
 use native.Mathlib.Omega.{arith}
 use lib.ListN.{length, getD, replicate}
-use Rattle.aes.specs.Sbox.{sboxOf, sboxTable}
+use Rattle.sbox.specs.Sbox.{sboxOf, sboxTable}
 use Rattle.aes.specs.Round.{subBytes, shiftRows, mixColumns, addRoundKey, aesRound}
-use Rattle.compress.specs.declared.family.Family.the-variants.{Small}
-use Rattle.compress.specs.Counter.{counterOf}
-use Rattle.compress.specs.Words.{times, fourAt, xor4, columnOf, fromColumn, fromBytes, wordsOf, wordAt, roundOf}
+use Rattle.family.specs.declared.Family.the-variants.{Small}
+use Rattle.counter.specs.Counter.{counterOf}
+use Rattle.words.specs.Words.{times, fourAt, xor4, columnOf, fromColumn, fromBytes, wordsOf, wordAt, roundOf}
 use Rattle.compress.specs.Expansion.{back, places, enters, tapsOf, lastOf, countsOf, groupOf, nonlinearRun, linearOf, linearRun, runOf, expandOf}
 use Rattle.compress.specs.Cipher.{halvesRound, innerOf, smallCipher}
-use Rattle.compress.specs.Compression.{smallOutput, compressOf, masterOf, startOf}
-use Rattle.digest.specs.declared.refusal.Answer.the-variants.{Accepted}
-use Rattle.digest.specs.declared.state.State.{State}
-use Rattle.digest.specs.Bytes.{le, bytesOf, fill, allZero}
+use Rattle.compress.specs.Compression.{smallOutput, compressOf}
+use Rattle.startup.specs.Startup.{masterOf, startOf}
+use Rattle.answers.specs.declared.refusal.Answer.the-variants.{Accepted}
+use Rattle.family.specs.Family.{familyOf}
+use Rattle.state.specs.declared.State.{State}
+use Rattle.state.specs.Bytes.{le, bytesOf, fill, allZero}
 use Rattle.digest.specs.Blocks.{wholeBlocks, lastBlock, lastBlocks, blocksOf, chainOver, digestOf}
-use Rattle.digest.specs.State.{allowed, familyOf, belongs, zeroPast, consistentOf, stateOf, heldOf, absorbed}
-use Rattle.digest.specs.Calls.{saltFits, beginAnswer, beginOf, addAnswer, addOf, reportBlocks, oneShotAnswer, oneShotOf, oneShotBuffer}
-use Rattle.digest.specs.Sequences.{add, after, afterCall}
+use Rattle.state.specs.State.{allowed, belongs, zeroPast, consistentOf}
+use Rattle.digest.specs.Running.{stateOf, heldOf, absorbed}
+use Rattle.digest.specs.Calls.{saltFits, beginAnswer, beginOf, addAnswer, addOf, oneShotAnswer, oneShotOf, oneShotBuffer}
+use Rattle.answers.specs.Report.{reportBlocks}
+use Rattle.sequences.specs.Sequences.{add, after, afterCall}
 
 -- One that refuses everything: begin of 256 bits with an empty salt is accepted.
 pub begins : beginAnswer 256 [] ≡ Accepted

@@ -1,18 +1,18 @@
--- What callers know of a compression's output and of a starting value: sixteen words, zero past the family's chain, and only the family's block is read.
+-- What callers know of a compression's output: sixteen words, zero past the family's chain, and only the family's block is read.
 use mathlib.Core.Path.{_≡_, refl}
 use Prim.Native.Nat.{ℕ, zero, suc, _+_, _-_, _*_, _≤_}
 use native.Mathlib.Omega.{arith}
 use mathlib.Core.List.{List}
 use lib.ListN.{length, take, drop, replicate}
 use lib.Seq.{getD-take}
-use Rattle.compress.specs.declared.family.Family.{Family}
-use Rattle.compress.specs.declared.family.Family.the-variants.{Small, Large}
-use Rattle.compress.specs.declared.counter.Counter.{Counter}
-use Rattle.compress.specs.Family.{blockBytes, blockWords, chainWords}
-use Rattle.compress.specs.Words.{wordAt, wordsOf, xor4}
+use Rattle.family.specs.declared.Family.{Family}
+use Rattle.family.specs.declared.Family.the-variants.{Small, Large}
+use Rattle.counter.specs.declared.Counter.{Counter}
+use Rattle.family.specs.Family.{blockBytes, blockWords, chainWords}
+use Rattle.words.specs.Words.{wordAt, wordsOf, xor4}
 use Rattle.compress.specs.Expansion.{expandOf}
-use Rattle.compress.specs.Compression.{smallOutput, largeOutput, compressOf, startOf}
-use Rattle.compress.proofs.Numbers.{numbers}
+use Rattle.compress.specs.Compression.{smallOutput, largeOutput, compressOf}
+use Rattle.family.proofs.Numbers.{numbers}
 
 -- the first n words of a list of bytes are those of its first m bytes
 words-take : (n m : ℕ) (b : List ℕ) → 4 * n ≤ m → wordsOf n (take m b) ≡ wordsOf n b
@@ -47,11 +47,3 @@ pub compress-zero : (f : Family) (chain block : List ℕ) (c : Counter) (salt : 
 unfolding compressOf smallOutput largeOutput xor4
 compress-zero Small chain block c salt = refl
 compress-zero Large chain block c salt = refl
-
-pub start-length : (f : Family) (m : ℕ) → length (startOf f m) ≡ 16
-unfolding startOf
-start-length f m = compress-length f _ _ _ _
-
-pub start-zero : (f : Family) (m : ℕ) → drop (chainWords f) (startOf f m) ≡ replicate (16 - chainWords f) 0
-unfolding startOf
-start-zero f m = compress-zero f _ _ _ _

@@ -9,10 +9,11 @@ use lib.ListN.{length, getD, set, take, drop, length-set, length-append}
 use lib.Seq.{take-suc-set, getD-take, length-take-le, set-at, take-at, take-all, drop-cons, append-snoc}
 use lib.Bits.{bitXor}
 use borrow.Author.Tests.{eq-eqb, ne-eqb}
-use Rattle.compress.specs.Words.{times, fourAt, wordAt, wordsOf}
-use Rattle.compress.specs.declared.family.Family.{Family}
-use Rattle.compress.specs.declared.counter.Counter.{Counter}
-use Rattle.compress.specs.Family.{blockWords, nearDistance, saltQuads, runs}
+use Rattle.words.specs.Words.{times, fourAt, wordAt, wordsOf}
+use Rattle.family.specs.declared.Family.{Family}
+use Rattle.counter.specs.declared.Counter.{Counter}
+use Rattle.family.specs.Family.{blockWords, nearDistance, saltQuads, runs, expandedWords}
+use Rattle.family.proofs.Numbers.{numbers}
 use Rattle.compress.specs.Expansion.{back, places, tapsOf, lastOf, groupOf, linearOf, linearRun, nonlinearRun, runOf, expandOf}
 
 pub times-more : {A : Type 0} (n : ℕ) (f : ℕ → A → A) (s : A) → times (n + 1) f s ≡ f n (times n f s)
@@ -131,8 +132,8 @@ runs-step f c salt start v v′ r e p =
     rw (a, times-more r (runOf f c salt) start, p, e)
 
 -- the runs behind a block that was loaded
-pub runs-all : (f : Family) (c : Counter) (salt block rest start v : List ℕ) (n k : ℕ) → n ≡ blockWords f → k ≡ runs f → length v ≡ blockWords f * (runs f + 1)
+pub runs-all : (f : Family) (c : Counter) (salt block rest start v : List ℕ) (n k : ℕ) → n ≡ blockWords f → k ≡ runs f → length v ≡ expandedWords f
     → start ≡ wordsOf n block ++ rest → take (blockWords f * (k + 1)) v ≡ times k (runOf f c salt) (take (blockWords f) start) → v ≡ expandOf f block c salt
 unfolding expandOf
 runs-all f c salt block rest start v n k b h l s e =
-    sym (take-all (blockWords f * (runs f + 1)) v (omega arith)) ∙ rw (h, s, b, take-at (wordsOf (blockWords f) block) rest (blockWords f) (words-length (blockWords f) block)) at e
+    sym (take-all (blockWords f * (runs f + 1)) v (omega (arith, numbers f .expanded))) ∙ rw (h, s, b, take-at (wordsOf (blockWords f) block) rest (blockWords f) (words-length (blockWords f) block)) at e

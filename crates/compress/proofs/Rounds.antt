@@ -4,7 +4,7 @@ use mathlib.Core.List.{List}
 use Prim.Native.Nat.{ℕ, _+_}
 use Rattle.compress.specs.declared.cipher.Halves.{Halves}
 use Rattle.compress.specs.declared.cipher.Quarters.{Quarters}
-use Rattle.compress.specs.Words.{times, xor4}
+use Rattle.words.specs.Words.{times, xor4}
 use Rattle.compress.specs.Cipher.{halvesRound, quartersRound}
 use Rattle.compress.proofs.Growing.{times-more}
 

@@ -1,9 +1,9 @@
 -- The ciphers (document 01, "Cipher, small" and "Cipher, large"), over any inner function of the round's number.
 use Prim.Native.Nat.{ℕ, _+_, _*_}
 use mathlib.Core.List.{List}
-use Rattle.compress.specs.Words.{times, fourAt, xor4, roundOf, zero4}
-use Rattle.compress.specs.Family.{rounds}
-use Rattle.compress.specs.declared.family.Family.the-variants.{Small, Large}
+use Rattle.words.specs.Words.{times, fourAt, xor4, roundOf, zero4}
+use Rattle.family.specs.Family.{rounds}
+use Rattle.family.specs.declared.Family.the-variants.{Small, Large}
 use Rattle.compress.specs.declared.cipher.Halves.{Halves}
 use Rattle.compress.specs.declared.cipher.Quarters.{Quarters}
 

@@ -1,17 +1,16 @@
 -- The compression functions (document 01, "Compression"). A chain has 16 words, a block 128 bytes and a salt 64, of which the small family uses the
 -- first 8, 64 and 32; the words past its chain are zero.
-use Prim.Native.Nat.{ℕ, _/_, _%_}
-use mathlib.Core.List.{List, _∷_, _++_}
+use Prim.Native.Nat.{ℕ}
+use mathlib.Core.List.{List, _++_}
 use lib.ListN.{replicate}
-use Rattle.compress.specs.declared.family.Family.{Family}
-use Rattle.compress.specs.declared.family.Family.the-variants.{Small, Large}
-use Rattle.compress.specs.declared.counter.Counter.{Counter}
+use Rattle.family.specs.declared.Family.{Family}
+use Rattle.family.specs.declared.Family.the-variants.{Small, Large}
+use Rattle.counter.specs.declared.Counter.{Counter}
 use Rattle.compress.specs.declared.cipher.Halves.{Halves}
 use Rattle.compress.specs.declared.cipher.Quarters.{Quarters}
-use Rattle.compress.specs.Words.{wordsOf, fourAt, xor4}
+use Rattle.words.specs.Words.{wordsOf, fourAt, xor4}
 use Rattle.compress.specs.Expansion.{expandOf}
 use Rattle.compress.specs.Cipher.{smallCipher, largeCipher}
-use Rattle.compress.specs.Counter.{counterOf}
 
 -- Output = chain xor cipher(chain); the output is read back in the order of the chain.
 unfoldable pub smallOutput : List ℕ → Halves → List ℕ
@@ -24,11 +23,3 @@ largeOutput chain s =
 unfoldable pub compressOf : Family → List ℕ → List ℕ → Counter → List ℕ → List ℕ
 compressOf Small chain block c salt = smallOutput chain (smallCipher (expandOf Small block c (wordsOf 16 salt)) chain)
 compressOf Large chain block c salt = largeOutput chain (largeCipher (expandOf Large block c (wordsOf 16 salt)) chain)
-
--- The master value is compression of all zeros with counter 0.
-unfoldable pub masterOf : Family → List ℕ
-masterOf f = compressOf f (replicate 16 0) (replicate 128 0) (counterOf 0) (replicate 64 0)
-
--- The starting value for m bits is compression of the master value with m as the block's word 0, all else zero. (m is below 65,536.)
-unfoldable pub startOf : Family → ℕ → List ℕ
-startOf f m = compressOf f (masterOf f) (m % 256 ∷ m / 256 ∷ replicate 126 0) (counterOf 0) (replicate 64 0)

@@ -1,24 +1,20 @@
 -- The message expansion (document 01, "Expansion, small" and "Expansion, large"): one definition over the family's numbers. A list of words grows
 -- at its end, and a word is read by its distance back from the next one.
 use Prim.Native.Nat.{ℕ, _+_, _-_, _*_, _/_, _%_}
-use mathlib.Core.Bool.{Bool, true, false}
+use mathlib.Core.Bool.{cond}
 use mathlib.Core.List.{List, [], _∷_, _++_}
 use lib.ListN.{getD, length}
 use lib.Bits.{bitXor}
 use lib.Dec.{eqb}
-use Rattle.compress.specs.declared.family.Family.{Family}
-use Rattle.compress.specs.declared.family.Family.the-variants.{Small, Large}
-use Rattle.compress.specs.declared.counter.Counter.{Counter}
-use Rattle.compress.specs.Family.{blockWords, nearDistance, saltQuads, runs}
-use Rattle.compress.specs.Words.{times, fourAt, xor4, roundOf, zero4, wordsOf}
+use Rattle.family.specs.declared.Family.{Family}
+use Rattle.family.specs.declared.Family.the-variants.{Small, Large}
+use Rattle.counter.specs.declared.Counter.{Counter}
+use Rattle.family.specs.Family.{blockWords, nearDistance, saltQuads, runs}
+use Rattle.words.specs.Words.{times, fourAt, xor4, roundOf, zero4, wordsOf}
 
 -- the word d places back from the next
 unfoldable pub back : List ℕ → ℕ → ℕ
 back w d = getD w (length w - d) 0
-
-abbrev pub pick : {A : Type 0} → Bool → A → A → A
-pick true a b = a
-pick false a b = b
 
 abbrev pub complement : ℕ → ℕ
 complement x = bitXor x 0xFFFF_FFFF
@@ -39,7 +35,7 @@ places Large c =
 -- what enters word i: the value beside the place that is i, and nothing where none is
 unfoldable pub enters : List (ℕ × ℕ) → ℕ → ℕ
 enters [] i = 0
-enters (p ∷ ps) i = pick (eqb i (p .0)) (p .1) (enters ps i)
+enters (p ∷ ps) i = cond (eqb i (p .0)) (p .1) (enters ps i)
 
 -- A nonlinear group of four at i: one AES round, zero subkey, over words i-15, i-14, i-13, i-16 (large: i-31, i-30, i-29, i-32), each xored with a
 -- salt word, the result xored with words i-4 to i-1; and the counter enters as the word is made.
@@ -69,7 +65,7 @@ linearRun n near count = times count (λ k w. w ++ (linearOf n near w ∷ []))
 -- Run r, of as many words as a block has: nonlinear and linear in turn.
 unfoldable pub runOf : Family → Counter → List ℕ → ℕ → List ℕ → List ℕ
 runOf f c salt r w =
-    pick (eqb (r % 2) 0)
+    cond (eqb (r % 2) 0)
     (nonlinearRun (blockWords f) (saltQuads f) (places f c) salt (blockWords f / 4) w)
     (linearRun (blockWords f) (nearDistance f) (blockWords f) w)
 

@@ -3,13 +3,13 @@ ghost use mathlib.Core.Path.{_≡_};
 ghost use mathlib.Core.List.{_++_};
 ghost use Prim.Native.Nat.{_+_, _*_, _/_, _≤_, _<_};
 ghost use lib.ListN.{length, take};
-ghost use Rattle.compress.specs.declared.family.Family.the-variants.{Small, Large};
-ghost use Rattle.compress.specs.Family.{blockWords, nearDistance, saltQuads, runs};
-ghost use Rattle.compress.specs.Words.{wordsOf};
+ghost use Rattle.family.specs.declared.Family.the-variants.{Small, Large};
+ghost use Rattle.family.specs.Family.{blockWords, saltQuads, expandedWords};
+ghost use Rattle.words.specs.Words.{wordsOf};
 ghost use Rattle.compress.specs.Expansion.{places, enters, tapsOf, lastOf, countsOf, groupOf, nonlinearRun, linearRun, runOf, expandOf};
-use crate::counter::Counter;
-use crate::family::Family;
-use crate::words;
+use crate::quads;
+use counter::Counter;
+use family::Family;
 
 fn entering_small(i: usize, c: Counter) -> u32
     ensures { λ r. ⌜ r ≡ enters (places Small c) i ⌝ }
@@ -50,7 +50,7 @@ fn entering(family: Family, i: usize, c: Counter) -> u32
 }
 
 fn counts(family: Family, i: usize, c: Counter) -> [u32; 4]
-    requires { ⌜ i ≤ 448 ⌝ }
+    requires { ⌜ i ≤ expandedWords Large ⌝ }
     ensures { λ r. ⌜ r ≡ countsOf (places family c) i ⌝ }
 {
     [
@@ -79,7 +79,7 @@ fn last(w: &[u32], i: usize) -> [u32; 4]
 
 // The four words that follow the first i.
 fn group(family: Family, w: &[u32], i: usize, c: Counter, salt4: [u32; 4]) -> [u32; 4]
-    requires { ⌜ (blockWords family ≤ i) × (i ≤ length (now w)) × (i ≤ 448) ⌝ }
+    requires { ⌜ (blockWords family ≤ i) × (i ≤ length (now w)) × (i ≤ expandedWords Large) ⌝ }
     ensures { λ r. ⌜ r ≡ groupOf (blockWords family) (places family c) salt4 (take i (now (w .entry))) ⌝ }
 {
     let n = family.block_words();
@@ -100,7 +100,7 @@ fn put(w: &mut [u32], i: usize, x: [u32; 4])
 
 // The next group, put in at i.
 fn add_group(family: Family, w: &mut [u32], i: usize, c: Counter, salt4: [u32; 4])
-    requires { ⌜ (blockWords family ≤ i) × (i + 4 ≤ length (now w)) × (length (now w) ≤ 448) ⌝ }
+    requires { ⌜ (blockWords family ≤ i) × (i + 4 ≤ length (now w)) × (length (now w) ≤ expandedWords Large) ⌝ }
     ensures { λ _. ⌜ (take (i + 4) (now (w .exit)) ≡ take i (now (w .entry)) ++ groupOf (blockWords family) (places family c) salt4 (take i (now (w .entry)))) × (length (now (w .exit)) ≡ length (now (w .entry))) ⌝ }
 {
     let x = group(family, &*w, i, c, salt4);
@@ -109,14 +109,14 @@ fn add_group(family: Family, w: &mut [u32], i: usize, c: Counter, salt4: [u32; 4
 
 // A run of nonlinear words from place i.
 fn nonlinear(family: Family, w: &mut [u32], i: usize, c: Counter, salt: [u32; 16])
-    requires { ⌜ (blockWords family ≤ i) × (i + blockWords family ≤ length (now w)) × (length (now w) ≤ 448) ⌝ }
+    requires { ⌜ (blockWords family ≤ i) × (i + blockWords family ≤ length (now w)) × (length (now w) ≤ expandedWords Large) ⌝ }
     ensures { λ _. ⌜ (take (i + blockWords family) (now (w .exit)) ≡ nonlinearRun (blockWords family) (saltQuads family) (places family c) salt (blockWords family / 4) (take i (now (w .entry)))) × (length (now (w .exit)) ≡ length (now (w .entry))) ⌝ }
 {
     let groups = family.block_words() / 4;
     let quads = family.salt_quads();
     let mut k: usize = 0;
     while k < groups {
-        let salt4 = words::quad(&salt, 4 * (k % quads));
+        let salt4 = quads::quad(&salt, 4 * (k % quads));
         add_group(family, w, i + 4 * k, c, salt4);
         k += 1;
     }
@@ -137,7 +137,7 @@ fn linear(w: &mut [u32], i: usize, n: usize, near: usize)
 
 // Run r, behind the first n * (r + 1) words.
 fn run(family: Family, w: &mut [u32], r: usize, c: Counter, salt: [u32; 16])
-    requires { ⌜ (blockWords family * (r + 1) + blockWords family ≤ length (now w)) × (length (now w) ≤ 448) ⌝ }
+    requires { ⌜ (blockWords family * (r + 1) + blockWords family ≤ length (now w)) × (length (now w) ≤ expandedWords Large) ⌝ }
     ensures { λ _. ⌜ (take (blockWords family * (r + 1) + blockWords family) (now (w .exit)) ≡ runOf family c salt r (take (blockWords family * (r + 1)) (now (w .entry)))) × (length (now (w .exit)) ≡ length (now (w .entry))) ⌝ }
 {
     let n = family.block_words();
@@ -151,12 +151,12 @@ fn run(family: Family, w: &mut [u32], r: usize, c: Counter, salt: [u32; 16])
 
 // All words of a block.
 pub(crate) fn expand(family: Family, w: &mut [u32], block: [u8; 128], c: Counter, salt: [u8; 64])
-    requires { ⌜ length (now w) ≡ blockWords family * (runs family + 1) ⌝ }
+    requires { ⌜ length (now w) ≡ expandedWords family ⌝ }
     ensures { λ _. ⌜ now (w .exit) ≡ expandOf family block c (wordsOf 16 salt) ⌝ }
 {
     let mut s = [0u32; 16];
-    words::load(&mut s, &salt, 16);
-    words::load(w, &block, family.block_words());
+    quads::load(&mut s, &salt, 16);
+    quads::load(w, &block, family.block_words());
     let runs = family.runs();
     let mut r: usize = 0;
     while r < runs {

@@ -2,21 +2,19 @@
 // uses the first 8, 64 and 32.
 ghost use mathlib.Core.Path.{_≡_};
 ghost use mathlib.Core.List.{_++_};
-ghost use Rattle.compress.specs.declared.family.Family.the-variants.{Small, Large};
-ghost use Rattle.compress.specs.Compression.{smallOutput, largeOutput, compressOf, masterOf, startOf};
+ghost use Rattle.family.specs.declared.Family.the-variants.{Small, Large};
+ghost use Rattle.compress.specs.Compression.{smallOutput, largeOutput, compressOf};
 
 mod cipher;
-mod counter;
 mod expansion;
-mod family;
-mod words;
+mod quads;
 
-use cipher::Halves;
-use cipher::Quarters;
-pub use counter::Counter;
-pub use family::Family;
-pub use family::LargeFamily;
-pub use family::SmallFamily;
+pub use cipher::Halves;
+pub use cipher::Quarters;
+use counter::Counter;
+use family::Family;
+use family::LargeFamily;
+use family::SmallFamily;
 
 fn joined(a: [u32; 4], b: [u32; 4], c: [u32; 4], d: [u32; 4]) -> [u32; 16]
     ensures { λ r. ⌜ r ≡ a ++ (b ++ (c ++ d)) ⌝ }
@@ -48,8 +46,8 @@ fn feed_small(chain: [u32; 16], s: Halves) -> [u32; 16]
     let left = s.left;
     let right = s.right;
     joined(
-        words::xored(words::quad(&chain, 0), left),
-        words::xored(words::quad(&chain, 4), right),
+        words::xored(quads::quad(&chain, 0), left),
+        words::xored(quads::quad(&chain, 4), right),
         [0, 0, 0, 0],
         [0, 0, 0, 0],
     )
@@ -63,10 +61,10 @@ fn feed_large(chain: [u32; 16], s: Quarters) -> [u32; 16]
     let b = s.b;
     let r = s.r;
     joined(
-        words::xored(words::quad(&chain, 0), l),
-        words::xored(words::quad(&chain, 4), a),
-        words::xored(words::quad(&chain, 8), b),
-        words::xored(words::quad(&chain, 12), r),
+        words::xored(quads::quad(&chain, 0), l),
+        words::xored(quads::quad(&chain, 4), a),
+        words::xored(quads::quad(&chain, 8), b),
+        words::xored(quads::quad(&chain, 12), r),
     )
 }
 
@@ -110,26 +108,4 @@ pub fn compress(
         Family::Small => compress_small(chain, block, counter, salt),
         Family::Large => compress_large(chain, block, counter, salt),
     }
-}
-
-pub fn master_value(family: Family) -> [u32; 16]
-    ensures { λ r. ⌜ r ≡ masterOf family ⌝ }
-{
-    compress(family, [0u32; 16], [0u8; 128], Counter::of(0), [0u8; 64])
-}
-
-// The starting value for m bits.
-pub fn starting_value(family: Family, m: u16) -> [u32; 16]
-    ensures { λ r. ⌜ r ≡ startOf family m ⌝ }
-{
-    let mut block = [0u8; 128];
-    block[0] = (m % 256) as u8;
-    block[1] = (m / 256) as u8;
-    compress(
-        family,
-        master_value(family),
-        block,
-        Counter::of(0),
-        [0u8; 64],
-    )
 }

@@ -9,29 +9,34 @@ use lib.Dec.{eqb, leb, ltb}
 use lib.ListN.{length, take, drop, replicate, length-append}
 use lib.Seq.{take-take, length-take-le, drop-nil}
 use borrow.Author.Tests.{leb-true, lt-ltb, le-ltb}
-use Rattle.compress.specs.declared.family.Family.{Family}
-use Rattle.compress.specs.Compression.{startOf}
-use Rattle.digest.specs.declared.refusal.Refusal.{Refusal}
-use Rattle.digest.specs.declared.refusal.Refusal.the-variants.{DigestLength, SaltSize, MessageLimit, StateInconsistent, BufferShort}
-use Rattle.digest.specs.declared.refusal.Answer.{Answer}
-use Rattle.digest.specs.declared.refusal.Answer.the-variants.{Accepted, Refused}
-use Rattle.digest.specs.declared.state.State.{State}
+use Rattle.family.specs.declared.Family.{Family}
+use Rattle.family.specs.declared.Family.the-variants.{Large}
+use Rattle.startup.specs.Startup.{startOf}
+use Rattle.startup.proofs.Started.{start-length}
+use Rattle.answers.specs.declared.refusal.Refusal.{Refusal}
+use Rattle.answers.specs.declared.refusal.Refusal.the-variants.{DigestLength, SaltSize, MessageLimit, StateInconsistent, BufferShort}
+use Rattle.answers.specs.declared.refusal.Answer.{Answer}
+use Rattle.answers.specs.declared.refusal.Answer.the-variants.{Accepted, Refused}
+use Rattle.family.specs.Family.{digestBits, familyOf}
+use Rattle.state.specs.declared.State.{State}
 use Rattle.digest.specs.declared.calls.Step.{Step}
-use Rattle.digest.specs.declared.calls.Report.{Report}
-use Rattle.digest.specs.declared.calls.Report.the-variants as report
+use Rattle.answers.specs.declared.report.Report.{Report}
+use Rattle.answers.specs.declared.report.Report.the-variants as report
 use Rattle.digest.specs.declared.calls.Finished.{Finished}
-use Rattle.digest.specs.Refusal.{ifAccepted}
-use Rattle.digest.specs.Bytes.{le, bytesOf, fill}
-use Rattle.digest.specs.Blocks.{wholeBlocks, chainOver}
-use Rattle.digest.specs.State.{limit, allowed, familyOf, consistentOf, zeroState, stateOf, heldOf, absorbed}
+use Rattle.answers.specs.Refusal.{ifAccepted}
+use Rattle.state.specs.Bytes.{le, bytesOf, fill}
+use Rattle.digest.specs.Blocks.{wholeBlocks, blocksOf, chainOver, digestOf}
+use Rattle.state.specs.State.{limit, allowed, consistentOf, zeroState}
+use Rattle.digest.specs.Running.{stateOf, heldOf, absorbed}
 use Rattle.digest.specs.Calls.{saltFits, beginAnswer, beginOf, addAnswer, addOf, closing, stateDigest, finishAnswer, finishOf, finishBuffer, oneShotAnswer, oneShotOf, oneShotBuffer}
-use Rattle.digest.proofs.Sizes.{block-pos}
-use Rattle.digest.proofs.Filling.{and-left, and-right, le-length, fill-nil}
+use Rattle.family.proofs.Sizes.{block-pos}
+use Rattle.answers.proofs.Tests.{and-left, and-right}
+use Rattle.state.proofs.Filling.{le-length, fill-nil}
 use Rattle.digest.proofs.Blocking.{chain-length}
-use Rattle.digest.proofs.Soundness.{Sound, sound}
+use Rattle.state.proofs.Soundness.{Sound, sound}
 use Rattle.digest.proofs.Cuts.{start-consistent, state-absorbed}
-use Rattle.digest.proofs.Counters.{last-cases}
-use Rattle.digest.proofs.Joined.{finish-one-shot}
+use Rattle.digest.proofs.Endings.{last-cases}
+use Rattle.digest.proofs.Shot.{finish-one-shot}
 
 pub start-made : (m : ℕ) (salt : List ℕ) {f : Family} {chain filled : List ℕ} → f ≡ familyOf m → chain ≡ startOf f m → filled ≡ fill 64 salt
     → _≡_ {A = State} (record { family = f; m = m; salt = filled; chain = chain; covered = record { 0 = 0 }; compressed = 0; held = replicate 128 0 }) (stateOf m salt [])
@@ -79,12 +84,21 @@ module _ (s : State) (xs : List ℕ) where
 -- the digest's size
 pub m-max : (m : ℕ) → allowed m ≡ true → m / 8 ≤ 64
 unfolding allowed
-m-max m h = omega (arith, leb-true m 512 (and-right (ltb 0 m) (leb m 512) (and-left (ltb 0 m && leb m 512) (eqb (m % 8) 0) h)))
+m-max m h =
+    let most = digestBits Large in
+    omega (arith, leb-true m most (and-right (ltb 0 m) (leb m most) (and-left (ltb 0 m && leb m most) (eqb (m % 8) 0) h)))
 
 pub bytes-length : (ws : List ℕ) → length (bytesOf ws) ≡ 4 * length ws
 unfolding bytesOf
 bytes-length [] = refl
 bytes-length (w ∷ ws) = omega (arith, length-append (le 4 w) (bytesOf ws), le-length 4 w, bytes-length ws)
+
+-- a digest has m/8 bytes
+pub digest-length : (f : Family) (m : ℕ) (salt xs : List ℕ) → m / 8 ≤ 64 → length (digestOf f m salt xs) ≡ m / 8
+unfolding digestOf
+digest-length f m salt xs h =
+    let chain = chainOver f salt (blocksOf f m xs) (startOf f m) in
+    length-take-le (m / 8) (bytesOf chain) (omega (arith, bytes-length chain, chain-length f salt (blocksOf f m xs) (startOf f m) (start-length f m)))
 
 -- finish compresses one block or two
 pub closing-max : (s : State) → length (closing s) ≤ 2

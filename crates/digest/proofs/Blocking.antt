@@ -8,15 +8,15 @@ use native.Mathlib.Nat.{zero-add, suc-add, div-add-mod', mod-lt}
 use native.Mathlib.Numerals.{add-one}
 use lib.ListN.{length, take, drop, length-drop}
 use lib.Seq.{drop-append-le, take-append-le, drop-drop}
-use Rattle.compress.specs.declared.family.Family.{Family}
-use Rattle.compress.specs.Family.{blockBytes, chainWords}
-use Rattle.compress.specs.Counter.{counterOf}
+use Rattle.family.specs.declared.Family.{Family}
+use Rattle.family.specs.Family.{blockBytes, chainWords}
+use Rattle.counter.specs.Counter.{counterOf}
 use Rattle.compress.specs.Compression.{compressOf}
 use Rattle.compress.proofs.Compressed.{compress-length, compress-zero}
-use Rattle.digest.specs.Bytes.{allZero}
+use Rattle.state.specs.Bytes.{allZero}
 use Rattle.digest.specs.Blocks.{wholeBlocks, chainOver}
-use Rattle.digest.proofs.Sizes.{block-pos}
-use Rattle.digest.proofs.Filling.{zero-list}
+use Rattle.family.proofs.Sizes.{block-pos}
+use Rattle.state.proofs.Filling.{zero-list}
 
 -- blocks look only at their own bytes
 pub wholeBlocks-more : (n b d : ℕ) (xs ys : List ℕ) → n * b ≤ length xs → wholeBlocks n b d (xs ++ ys) ≡ wholeBlocks n b d xs

@@ -1,26 +1,27 @@
 -- The last blocks as the code makes them.
 use mathlib.Core.Path.{_≡_, ap, _∙_}
+use mathlib.Core.Bool.{true, false, cond}
 use mathlib.Core.List.{List, [], _∷_, _++_, append-assoc}
 use Prim.Native.Nat.{ℕ, _+_, _-_, _*_, _%_, _≤_, _<_}
 use native.Mathlib.Omega.{arith}
-use lib.Dec.{eqb}
+use lib.Dec.{eqb, leb}
 use lib.ListN.{length, take, set, replicate, length-append, length-replicate, replicate-append-replicate}
 use lib.Seq.{sets, take-at}
-use borrow.Author.Tests.{le-leb, lt-leb}
-use Rattle.compress.specs.declared.family.Family.{Family}
-use Rattle.compress.specs.declared.counter.Counter.{Counter}
-use Rattle.compress.specs.Family.{blockBytes, padLimit, lengthBytes}
-use Rattle.compress.specs.Counter.{counterOf}
+use borrow.Author.Tests.{le-leb, lt-leb, leb-true, leb-false}
+use Rattle.family.specs.declared.Family.{Family}
+use Rattle.counter.specs.declared.Counter.{Counter}
+use Rattle.family.specs.Family.{blockBytes, padLimit, lengthBytes}
+use Rattle.counter.specs.Counter.{counterOf}
 use Rattle.compress.specs.Compression.{compressOf}
 use Rattle.compress.proofs.Compressed.{compress-block}
-use Rattle.digest.specs.declared.state.State.{State}
-use Rattle.digest.specs.Bytes.{le, fill}
-use Rattle.digest.specs.Blocks.{pick, lastBlock, lastBlocks, chainOver}
-use Rattle.digest.specs.State.{heldOf}
+use Rattle.state.specs.declared.State.{State}
+use Rattle.state.specs.Bytes.{le, fill}
+use Rattle.digest.specs.Blocks.{lastBlock, lastBlocks, chainOver}
+use Rattle.digest.specs.Running.{heldOf}
 use Rattle.digest.specs.Calls.{closing}
-use Rattle.digest.proofs.Sizes.{block-max, sizes}
-use Rattle.digest.proofs.Filling.{le-length, fill-length, fill-put, fill-nil}
-use Rattle.digest.proofs.Soundness.{Sound}
+use Rattle.family.proofs.Sizes.{block-max, sizes}
+use Rattle.state.proofs.Filling.{le-length, fill-length, fill-put, fill-nil}
+use Rattle.state.proofs.Soundness.{Sound}
 use Rattle.digest.proofs.Held.{held-length, held-filled}
 use Rattle.digest.proofs.Stores.{sets-sets, sets-take}
 
@@ -74,7 +75,7 @@ module _ (s : State) (ok : Sound s) (full : length (s .held) ≡ 128) where
       ap (λ (l : List ℕ). set l r 0x80) (held-filled s full (ok .rest))
       ∙ (rw (held-length s full) at (fill-put 128 (heldOf s) 0x80 (omega (arith, held-length s full, ok .below, block-max f))))
 
-  one : r ≤ padLimit f → closing s ≡ (pick (eqb r 0) 0 (8 * s .covered .0), lastBlock f (s .m) (s .covered .0) xs) ∷ []
+  one : r ≤ padLimit f → closing s ≡ (cond (eqb r 0) 0 (8 * s .covered .0), lastBlock f (s .m) (s .covered .0) xs) ∷ []
   unfolding closing lastBlocks
   one h = rw (held-length s full, le-leb r (padLimit f) h)
 
@@ -83,24 +84,24 @@ module _ (s : State) (ok : Sound s) (full : length (s .held) ≡ 128) where
   two h = rw (held-length s full, lt-leb r (padLimit f) h)
 
   -- in the code's terms
-  module _ {size limit : ℕ} (es : size ≡ blockBytes f) (el : limit ≡ padLimit f) where
-    pub close-one : s .covered .0 % size ≤ limit → {last done : List ℕ} {bits : ℕ} {counter : Counter}
+  module _ {size : ℕ} (es : size ≡ blockBytes f) where
+    pub close-one : leb (s .covered .0 % size) (padLimit f) ≡ true → {last done : List ℕ} {bits : ℕ} {counter : Counter}
         → last ≡ sets (set (s .held) (s .covered .0 % size) 0x80) (padLimit f + 1) numbers
-        → bits ≡ pick (eqb (s .covered .0 % size) 0) 0 (8 * s .covered .0) → counter ≡ counterOf bits → done ≡ compressOf f (s .chain) last counter (s .salt)
+        → bits ≡ cond (eqb (s .covered .0 % size) 0) 0 (8 * s .covered .0) → counter ≡ counterOf bits → done ≡ compressOf f (s .chain) last counter (s .salt)
         → (done ≡ chainOver f (s .salt) (closing s) (s .chain)) × (1 ≡ length (closing s))
     unfolding chainOver
     close-one h {last = last} {counter = counter} e1 e2 e3 e4 =
-        let h : r ≤ padLimit f = rw (es, el) at h in
+        let h : r ≤ padLimit f = leb-true r (padLimit f) (rw es at h) in
         let e = one h in
         (rw e (e4 ∙ rw (← compress-block f (s .chain) last counter (s .salt), e3, e2, e1, es, marked, last-stored f (s .m) (s .covered .0) xs (omega (arith, marked-length)))), rw e)
 
-    pub close-two : limit < s .covered .0 % size → {next last done : List ℕ} {k k₀ : Counter}
+    pub close-two : leb (s .covered .0 % size) (padLimit f) ≡ false → {next last done : List ℕ} {k k₀ : Counter}
         → k ≡ counterOf (8 * s .covered .0) → next ≡ compressOf f (s .chain) (set (s .held) (s .covered .0 % size) 0x80) k (s .salt)
         → last ≡ sets (replicate 128 0) (padLimit f + 1) numbers → k₀ ≡ counterOf 0 → done ≡ compressOf f next last k₀ (s .salt)
         → (done ≡ chainOver f (s .salt) (closing s) (s .chain)) × (2 ≡ length (closing s))
     unfolding chainOver
     close-two h {next} {last} {k = k} {k₀} e1 e2 e3 e4 e5 =
-        let h : padLimit f < r = rw (es, el) at h in
+        let h : padLimit f < r = leb-false r (padLimit f) (rw es at h) in
         let e = two h in
         let first : next ≡ compressOf f (s .chain) (fill (blockBytes f) xs) (counterOf (8 * s .covered .0)) (s .salt) =
         e2 ∙ rw (← compress-block f (s .chain) (set (s .held) (s .covered .0 % size) 0x80) k (s .salt), e1, es, marked, fill-cut (blockBytes f) 128 xs (omega (arith, marked-length, ok .below)) (block-max f)) in

@@ -1,6 +1,6 @@
 -- A state that takes in more bytes, in whatever pieces they come, and the state that all bytes so far give.
 use mathlib.Core.Path.{_≡_, refl, ap, sym, _∙_}
-use mathlib.Core.Bool.{Bool, true, false}
+use mathlib.Core.Bool.{Bool, true, false, cond}
 use mathlib.Core.List.{List, [], _++_, append-assoc}
 use Prim.Native.Nat.{ℕ, _+_, _-_, _*_, _/_, _%_, _≤_, _<_}
 use native.Mathlib.Omega.{arith}
@@ -9,20 +9,21 @@ use lib.Dec.{leb}
 use lib.ListN.{length, drop, length-append}
 use lib.Seq.{drop-append-le, drop-drop}
 use borrow.Author.Tests.{leb-false, lt-ltb}
-use Rattle.compress.specs.declared.family.Family.{Family}
-use Rattle.compress.specs.declared.family.Family.the-variants.{Small, Large}
-use Rattle.compress.specs.Family.{blockBytes, chainWords, saltBytes}
-use Rattle.compress.specs.Compression.{startOf}
-use Rattle.compress.proofs.Compressed.{start-zero}
-use Rattle.digest.specs.declared.state.State.{State}
-use Rattle.digest.specs.Bytes.{fill, allZero}
-use Rattle.digest.specs.Blocks.{pick, wholeBlocks, blocksOf, chainOver, digestOf}
-use Rattle.digest.specs.State.{limit, allowed, belongs, familyOf, consistentOf, stateOf, heldOf, absorbed}
+use Rattle.family.specs.declared.Family.{Family}
+use Rattle.family.specs.declared.Family.the-variants.{Small, Large}
+use Rattle.family.specs.Family.{digestBits, familyOf, blockBytes, chainWords, saltBytes}
+use Rattle.startup.specs.Startup.{startOf}
+use Rattle.startup.proofs.Started.{start-zero}
+use Rattle.state.specs.declared.State.{State}
+use Rattle.state.specs.Bytes.{fill, allZero}
+use Rattle.digest.specs.Blocks.{wholeBlocks, blocksOf, chainOver, digestOf}
+use Rattle.state.specs.State.{limit, allowed, belongs, consistentOf}
+use Rattle.digest.specs.Running.{stateOf, heldOf, absorbed}
 use Rattle.digest.specs.Calls.{saltFits, closing, stateDigest}
-use Rattle.digest.proofs.Sizes.{block-pos, block-max}
-use Rattle.digest.proofs.Filling.{zero-list, fill-take, fill-length, zero-fill}
+use Rattle.family.proofs.Sizes.{block-pos, block-max}
+use Rattle.state.proofs.Filling.{zero-list, fill-take, fill-length, zero-fill}
 use Rattle.digest.proofs.Blocking.{wholeBlocks-more, wholeBlocks-add, wholeBlocks-length, rest-length, rest-small, chainOver-append, chain-zero}
-use Rattle.digest.proofs.Soundness.{Sound, consistent-of}
+use Rattle.state.proofs.Soundness.{Sound, consistent-of}
 use Rattle.digest.proofs.Held.{held-length}
 use Rattle.digest.proofs.Tests.{salt-size}
 
@@ -119,11 +120,11 @@ still-sound s ok full a room =
 -- The family of m is the one that m belongs to.
 pub belongs-own : (m : ℕ) → belongs (familyOf m) m ≡ true
 unfolding familyOf belongs
-belongs-own m = by (leb m 256) refl
+belongs-own m = by (leb m (digestBits Small)) refl
   where
-    by : (t : Bool) → leb m 256 ≡ t → belongs (pick t Small Large) m ≡ true
+    by : (t : Bool) → leb m (digestBits Small) ≡ t → belongs (cond t Small Large) m ≡ true
     by true e = e
-    by false e = lt-ltb 256 m (leb-false m 256 e)
+    by false e = lt-ltb (digestBits Small) m (leb-false m (digestBits Small) e)
 
 pub salt-zero : (f : Family) (salt : List ℕ) → saltFits f salt ≡ true → allZero (drop (saltBytes f) (fill 64 salt)) ≡ true
 salt-zero f salt h = zero-fill 64 salt (saltBytes f) (salt-size f salt h)

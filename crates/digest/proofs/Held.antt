@@ -7,12 +7,12 @@ use native.Mathlib.Omega.{arith}
 use native.Mathlib.Nat.{mod-lt}
 use lib.ListN.{length, drop, length-append}
 use lib.Seq.{sets, length-take-le, append-snoc}
-use Rattle.compress.specs.Family.{blockBytes}
-use Rattle.digest.specs.declared.state.State.{State}
-use Rattle.digest.specs.Bytes.{fill, allZero}
-use Rattle.digest.specs.State.{heldOf}
-use Rattle.digest.proofs.Sizes.{block-pos, block-max}
-use Rattle.digest.proofs.Filling.{fill-put, fill-zeros}
+use Rattle.family.specs.Family.{blockBytes}
+use Rattle.state.specs.declared.State.{State}
+use Rattle.state.specs.Bytes.{fill, allZero}
+use Rattle.digest.specs.Running.{heldOf}
+use Rattle.family.proofs.Sizes.{block-pos, block-max}
+use Rattle.state.proofs.Filling.{fill-put, fill-zeros}
 
 -- bytes behind xs
 pub fill-puts : (k : ℕ) (ys xs : List ℕ) → length xs + length ys ≤ k → sets (fill k xs) (length xs) ys ≡ fill k (xs ++ ys)

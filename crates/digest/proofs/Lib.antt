@@ -1,15 +1,10 @@
-pub mod Sizes
-pub mod Filling
 pub mod Blocking
-pub mod Soundness
 pub mod Cuts
 pub mod Stores
 pub mod Tests
 pub mod Held
 pub mod Middle
+pub mod Endings
 pub mod Closing
+pub mod Shot
 pub mod Answers
-pub mod Joined
-pub mod Counters
-pub mod Openings
-pub mod Outcomes

@@ -7,20 +7,21 @@ use native.Mathlib.Nat.{div-eq-of-lt-le, le-mul-of-pos-right, lt-of-lt-of-le}
 use lib.Dec.{lit≤}
 use lib.ListN.{length, take, drop, replicate, length-append, length-take, length-drop, drop-of-length-le}
 use lib.Seq.{sets, drop-append-le, length-take-le, take-all, take-add}
-use Rattle.compress.specs.declared.counter.Counter.{Counter}
-use Rattle.compress.specs.Family.{blockBytes}
-use Rattle.compress.specs.Counter.{numberOf, counterOf}
+use Rattle.counter.specs.declared.Counter.{Counter}
+use Rattle.family.specs.Family.{blockBytes}
+use Rattle.counter.specs.Counter.{numberOf, counterOf}
 use Rattle.compress.specs.Compression.{compressOf}
 use Rattle.compress.proofs.Compressed.{compress-block}
-use Rattle.compress.proofs.Counting.{counter-number}
-use Rattle.digest.specs.declared.state.State.{State}
-use Rattle.digest.specs.Bytes.{fill}
+use Rattle.counter.proofs.Counting.{counter-number}
+use Rattle.state.specs.declared.State.{State}
+use Rattle.state.specs.Bytes.{fill}
 use Rattle.digest.specs.Blocks.{wholeBlocks, chainOver}
-use Rattle.digest.specs.State.{limit, heldOf, absorbed}
-use Rattle.digest.proofs.Sizes.{block-pos, block-max}
-use Rattle.digest.proofs.Filling.{fill-nil, fill-take}
+use Rattle.state.specs.State.{limit}
+use Rattle.digest.specs.Running.{heldOf, absorbed}
+use Rattle.family.proofs.Sizes.{block-pos, block-max}
+use Rattle.state.proofs.Filling.{fill-nil, fill-take}
 use Rattle.digest.proofs.Blocking.{wholeBlocks-more, wholeBlocks-last, chainOver-last}
-use Rattle.digest.proofs.Soundness.{Sound}
+use Rattle.state.proofs.Soundness.{Sound}
 use Rattle.digest.proofs.Held.{fill-puts, held-length, held-filled}
 
 -- After the bytes xs went into the state s: n blocks are compressed and rest bytes held; the counter is the bits in whole blocks so far.

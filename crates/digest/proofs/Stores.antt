@@ -1,15 +1,13 @@
--- The steps of the loops that store bytes or look for zeros.
+-- The steps of the loops that store bytes.
 use mathlib.Core.Path.{_≡_, ap, sym, _∙_}
-use mathlib.Core.Bool.{true, false}
 use mathlib.Core.List.{List, [], _∷_, _++_, append-assoc, append-nil}
 use Prim.Native.Nat.{ℕ, suc, _+_, _-_, _*_, _/_, _%_, _≤_, _<_}
 use native.Mathlib.Omega.{arith}
 use native.Mathlib.Numerals.{add-one}
-use lib.ListN.{length, getD, take, drop, set, length-append, length-take, length-drop, drop-of-length-le}
+use lib.ListN.{length, getD, take, drop, set, length-append, length-take, length-drop}
 use lib.Seq.{sets, sets-eq, drop-cons, take-suc, take-at, append-snoc, length-take-le, set-at}
-use borrow.Author.Tests.{eq-eqb, ne-eqb}
-use Rattle.digest.specs.Bytes.{le, bytesOf, fill, allZero}
-use Rattle.digest.proofs.Filling.{le-length, fill-put}
+use Rattle.state.specs.Bytes.{le, bytesOf, fill}
+use Rattle.state.proofs.Filling.{le-length, fill-put}
 
 pub put-step : (b : List ℕ) (at i count v : ℕ) → i < count
     → sets b (at + i) (le (count - i) v) ≡ sets (set b (at + i) (v % 256)) (at + (i + 1)) (le (count - (i + 1)) (v / 256))
@@ -79,15 +77,3 @@ spell-step b chain j hb hc hj e =
     sets-take b (4 * j) (le 4 (getD chain j 0)) (4 * (j + 1)) (omega (arith, le-length 4 (getD chain j 0))) (omega arith)
     ∙ ap (λ (l : List ℕ). l ++ le 4 (getD chain j 0)) e
     ∙ sym (rw (add-one, take-suc chain j 0 (omega arith)) (bytes-snoc (take j chain) (getD chain j 0)))
-
-pub zero-stop : (s : List ℕ) (i : ℕ) → i < length s → (getD s i 0 ≡ 0 → ⊥) → allZero (drop i s) ≡ false
-unfolding allZero
-zero-stop s i h ne = rw (drop-cons s i 0, ne-eqb _ _ ne)
-
-pub zero-more : (s : List ℕ) (i : ℕ) → i < length s → getD s i 0 ≡ 0 → allZero (drop i s) ≡ allZero (drop (i + 1) s)
-unfolding allZero
-zero-more s i h e = rw (drop-cons s i 0, eq-eqb _ _ e, add-one)
-
-pub zero-end : (s : List ℕ) (i : ℕ) → length s ≤ i → allZero (drop i s) ≡ true
-unfolding allZero
-zero-end s i h = rw drop-of-length-le

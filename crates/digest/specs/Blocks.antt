@@ -1,14 +1,15 @@
 -- The list of (counter, block) that a message is compressed over (document 01, "Padding and counter"), and the digest. All over the family's numbers.
+use mathlib.Core.Bool.{cond}
 use mathlib.Core.List.{List, [], _∷_, _++_}
 use Prim.Native.Nat.{ℕ, zero, suc, _+_, _*_, _/_}
 use lib.Dec.{eqb, leb}
 use lib.ListN.{length, take, drop}
-use Rattle.compress.specs.declared.family.Family.{Family}
-use Rattle.compress.specs.Family.{blockBytes, lengthBytes, padLimit}
-use Rattle.compress.specs.Counter.{counterOf}
-pub use Rattle.compress.specs.Expansion.{pick}
-use Rattle.compress.specs.Compression.{compressOf, startOf}
-use Rattle.digest.specs.Bytes.{le, bytesOf, fill}
+use Rattle.family.specs.declared.Family.{Family}
+use Rattle.family.specs.Family.{blockBytes, lengthBytes, padLimit}
+use Rattle.counter.specs.Counter.{counterOf}
+use Rattle.compress.specs.Compression.{compressOf}
+use Rattle.startup.specs.Startup.{startOf}
+use Rattle.state.specs.Bytes.{le, bytesOf, fill}
 
 -- The first n blocks of b bytes of xs, where done bytes went before xs. The counter is bits so far including this block.
 unfoldable pub wholeBlocks : ℕ → ℕ → ℕ → List ℕ → List (ℕ × List ℕ)
@@ -23,8 +24,8 @@ lastBlock f m covered xs = fill (padLimit f + 1) xs ++ (le (lengthBytes f) (8 * 
 -- rest is at most the family's limit, else two. The counter is without padding, and a block that holds padding only has counter 0.
 unfoldable pub lastBlocks : Family → ℕ → ℕ → List ℕ → List (ℕ × List ℕ)
 lastBlocks f m covered rest =
-    pick (leb (length rest) (padLimit f))
-    ((pick (eqb (length rest) 0) 0 (8 * covered), lastBlock f m covered (rest ++ (0x80 ∷ []))) ∷ [])
+    cond (leb (length rest) (padLimit f))
+    ((cond (eqb (length rest) 0) 0 (8 * covered), lastBlock f m covered (rest ++ (0x80 ∷ []))) ∷ [])
     ((8 * covered, fill (blockBytes f) (rest ++ (0x80 ∷ []))) ∷ (0, lastBlock f m covered []) ∷ [])
 
 -- every block of a message, with its counter

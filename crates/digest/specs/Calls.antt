@@ -4,20 +4,20 @@ use mathlib.Core.List.{List, [], _∷_, _++_}
 use Prim.Native.Nat.{ℕ, _+_, _/_}
 use lib.Dec.{eqb, ltb}
 use lib.ListN.{length, take, drop}
-use Rattle.compress.specs.declared.family.Family.{Family}
-use Rattle.compress.specs.Family.{saltBytes}
-use Rattle.digest.specs.declared.refusal.Refusal.the-variants.{DigestLength, SaltSize, MessageLimit, StateInconsistent, BufferShort}
-use Rattle.digest.specs.declared.refusal.Answer.{Answer}
-use Rattle.digest.specs.declared.refusal.Answer.the-variants.{Accepted, Refused}
-use Rattle.digest.specs.declared.state.State.{State}
+use Rattle.family.specs.declared.Family.{Family}
+use Rattle.family.specs.Family.{familyOf, saltBytes}
+use Rattle.answers.specs.declared.refusal.Refusal.the-variants.{DigestLength, SaltSize, MessageLimit, StateInconsistent, BufferShort}
+use Rattle.answers.specs.declared.refusal.Answer.{Answer}
+use Rattle.state.specs.declared.State.{State}
 use Rattle.digest.specs.declared.calls.Step.{Step}
-use Rattle.digest.specs.declared.calls.Report.{Report}
-use Rattle.digest.specs.declared.calls.Report.the-variants as report
+use Rattle.answers.specs.declared.report.Report.{Report}
 use Rattle.digest.specs.declared.calls.Finished.{Finished}
-use Rattle.digest.specs.Refusal.{judged, ifAccepted, refusalNumber}
-use Rattle.digest.specs.Bytes.{bytesOf, fill}
+use Rattle.answers.specs.Refusal.{judged, ifAccepted}
+use Rattle.answers.specs.Report.{reported}
+use Rattle.state.specs.Bytes.{bytesOf, fill}
 use Rattle.digest.specs.Blocks.{lastBlocks, blocksOf, chainOver, digestOf}
-use Rattle.digest.specs.State.{limit, allowed, familyOf, consistentOf, zeroState, stateOf, heldOf, absorbed}
+use Rattle.state.specs.State.{limit, allowed, consistentOf, zeroState}
+use Rattle.digest.specs.Running.{stateOf, heldOf, absorbed}
 
 -- salt empty or of the family's size
 unfoldable pub saltFits : Family → List ℕ → Bool
@@ -36,23 +36,6 @@ addAnswer s xs = judged ((not (consistentOf s), StateInconsistent) ∷ (ltb limi
 
 unfoldable pub addOf : State → List ℕ → Step
 addOf s xs = record { answer = addAnswer s xs; state = ifAccepted (addAnswer s xs) (absorbed s xs) s }
-
--- a report: bytes covered and blocks compressed, and 0 for both on a refusal
-abbrev pub reportNumber : Report → ℕ
-reportNumber (report.Covers n k) = 0
-reportNumber (report.Refused r) = refusalNumber r
-
-abbrev pub reportCovered : Report → ℕ
-reportCovered (report.Covers n k) = n .0
-reportCovered (report.Refused r) = 0
-
-abbrev pub reportBlocks : Report → ℕ
-reportBlocks (report.Covers n k) = k
-reportBlocks (report.Refused r) = 0
-
-abbrev pub reported : Answer → ℕ → ℕ → Report
-reported Accepted n k = report.Covers (record { 0 = n }) k
-reported (Refused r) n k = report.Refused r
 
 -- what finishing a state compresses, and its digest
 unfoldable pub closing : State → List (ℕ × List ℕ)

@@ -1,6 +1,3 @@
-pub mod Refusal
-pub mod Bytes
 pub mod Blocks
-pub mod State
+pub mod Running
 pub mod Calls
-pub mod Sequences

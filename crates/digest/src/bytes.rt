@@ -4,7 +4,7 @@ ghost use mathlib.Core.List.{_++_};
 ghost use Prim.Native.Nat.{_+_, _≤_};
 ghost use lib.ListN.{length, take, drop};
 ghost use lib.Seq.{sets};
-ghost use Rattle.digest.specs.Bytes.{le, bytesOf, fill};
+ghost use Rattle.state.specs.Bytes.{le, bytesOf, fill};
 
 // `count` bytes of `value` at `at`, the low one first.
 pub(crate) fn put_le(block: [u8; 128], at: usize, value: u64, count: usize) -> [u8; 128]
@@ -63,13 +63,13 @@ pub(crate) fn spell(chain: [u32; 16]) -> [u8; 128]
     b
 }
 
-// The first `count` bytes go out; the rest of the buffer stays.
-pub(crate) fn copy_out(bytes: [u8; 128], count: usize, out: &mut [u8])
-    requires { ⌜ (count ≤ 64) × (count ≤ length (now out)) ⌝ }
-    ensures { λ r. ⌜ now (out .exit) ≡ take count bytes ++ drop count (now (out .entry)) ⌝ }
+// The first `size` bytes go out; the rest of the buffer stays.
+pub(crate) fn copy_out(bytes: [u8; 128], size: usize, out: &mut [u8])
+    requires { ⌜ (size ≤ 64) × (size ≤ length (now out)) ⌝ }
+    ensures { λ r. ⌜ now (out .exit) ≡ take size bytes ++ drop size (now (out .entry)) ⌝ }
 {
     let mut i = 0;
-    while i < count {
+    while i < size {
         out[i] = bytes[i];
         i += 1;
     }

@@ -1,35 +1,30 @@
 // Begin, add, finish and one-shot. Each tests in document 01's order, and a refusal changes nothing.
 ghost use mathlib.Core.Path.{_≡_};
-ghost use mathlib.Core.Bool.{true};
+ghost use mathlib.Core.Bool.{true, cond};
 ghost use mathlib.Core.List.{[], _++_};
 ghost use Prim.Native.Nat.{_+_, _*_, _≤_, min};
-ghost use lib.Dec.{eqb};
+ghost use lib.Dec.{eqb, leb};
 ghost use lib.ListN.{length};
 ghost use lib.Seq.{sets};
-ghost use Rattle.compress.specs.Family.{padLimit, lengthBytes};
-ghost use Rattle.digest.specs.Bytes.{le};
-ghost use Rattle.digest.specs.Blocks.{pick, chainOver};
-ghost use Rattle.digest.specs.State.{limit, allowed, familyOf, consistentOf, stateOf, absorbed};
-ghost use Rattle.digest.specs.Calls.{saltFits, beginOf, addOf, closing, stateDigest, finishOf, finishBuffer, oneShotOf, oneShotBuffer};
+ghost use Rattle.family.specs.Family.{padLimit, lengthBytes};
+ghost use Rattle.state.specs.Bytes.{le};
+ghost use Rattle.digest.specs.Blocks.{chainOver};
+ghost use Rattle.state.specs.State.{limit, consistentOf};
+ghost use Rattle.digest.specs.Running.{stateOf, absorbed};
+ghost use Rattle.digest.specs.Calls.{saltFits, beginOf, addOf, closing, finishOf, finishBuffer, oneShotOf, oneShotBuffer};
 use crate::bytes;
-use crate::refusal::Answer;
-use crate::refusal::Refusal;
-use crate::state;
-use crate::state::Length;
-use crate::state::State;
-use compress::Counter;
-use compress::Family;
+use answers::Answer;
+use answers::Length;
+use answers::Refusal;
+use answers::Report;
+use counter::Counter;
+use family::Family;
+use state::State;
 
 // An answer, and the state handed back.
 pub struct Step {
     pub answer: Answer,
     pub state: State,
-}
-
-// What a digest covers: bytes, and blocks compressed with padding included.
-pub enum Report {
-    Covers(Length, u64),
-    Refused(Refusal),
 }
 
 pub struct Finished {
@@ -51,8 +46,8 @@ fn started(m: u16, salt: &[u8]) -> State
     requires { ⌜ length (now salt) ≤ 64 ⌝ }
     ensures { λ r. ⌜ r ≡ stateOf m (now (salt .entry)) [] ⌝ }
 {
-    let family = state::family_of(m);
-    let chain = compress::starting_value(family, m);
+    let family = Family::of(m);
+    let chain = startup::starting_value(family, m);
     let filled = bytes::fill_salt(salt);
     State {
         family: family,
@@ -75,7 +70,7 @@ pub fn begin(m: u16, salt: &[u8]) -> Step
             state: state::zero_state(),
         };
     }
-    if !salt_fits(state::family_of(m), salt) {
+    if !salt_fits(Family::of(m), salt) {
         return Step {
             answer: Answer::Refused(Refusal::SaltSize),
             state: state::zero_state(),
@@ -91,6 +86,13 @@ fn least(a: usize, b: usize) -> usize
     ensures { λ r. ⌜ r ≡ min a b ⌝ }
 {
     if a <= b { a } else { b }
+}
+
+fn reach(covered: Length, more: usize) -> u64
+    requires { ⌜ covered .0 + more ≤ limit ⌝ }
+    ensures { λ r. ⌜ r ≡ covered .0 + more ⌝ }
+{
+    covered.0 + more as u64
 }
 
 // Takes the bytes in, a part of a block at a time.
@@ -126,13 +128,13 @@ fn absorb(state: State, bytes: &[u8]) -> State
         }
     }
     let m = state.m;
-    let reach = Length(covered.0 + bytes.len() as u64);
+    let reached = reach(covered, bytes.len());
     State {
         family: family,
         m: m,
         salt: salt,
         chain: chain,
-        covered: reach,
+        covered: Length(reached),
         compressed: compressed,
         held: held,
     }
@@ -169,7 +171,7 @@ struct Closed {
 
 // The counter of the only last block: 0 where it holds padding only.
 fn last_counter(rest: usize, bits: u64) -> u64
-    ensures { λ r. ⌜ r ≡ pick (eqb rest 0) 0 bits ⌝ }
+    ensures { λ r. ⌜ r ≡ cond (eqb rest 0) 0 bits ⌝ }
 {
     if rest == 0 { 0 } else { bits }
 }
@@ -183,6 +185,13 @@ fn with_length(block: [u8; 128], family: Family, covered: Length, m: u16) -> [u8
     let field = family.length_bytes();
     let first = bytes::put_le(block, at, 8 * covered.0, field);
     bytes::put_le(first, at + field, m as u64, 2)
+}
+
+// Whether the length and m fit into the block behind the rest and the mark.
+fn ends_in_one(family: Family, rest: usize) -> bool
+    ensures { λ r. ⌜ r ≡ leb rest (padLimit family) ⌝ }
+{
+    rest <= family.pad_limit()
 }
 
 // Pads a copy of the held block and compresses it.
@@ -199,7 +208,7 @@ fn close(state: State) -> Closed
     let rest = (covered.0 % (family.block_bytes() as u64)) as usize;
     let mut block = state.held;
     block[rest] = 0x80;
-    if rest <= family.pad_limit() {
+    if ends_in_one(family, rest) {
         let last = with_length(block, family, covered, m);
         let counter = Counter::of(last_counter(rest, bits));
         let done = compress::compress(family, chain, last, counter, salt);
@@ -255,7 +264,7 @@ pub fn one_shot(m: u16, salt: &[u8], bytes: &[u8], out: &mut [u8]) -> Report
     if !state::is_allowed(m) {
         return Report::Refused(Refusal::DigestLength);
     }
-    if !salt_fits(state::family_of(m), salt) {
+    if !salt_fits(Family::of(m), salt) {
         return Report::Refused(Refusal::SaltSize);
     }
     if bytes.len() as u64 > state::LIMIT {

@@ -18,19 +18,13 @@ fn put_words(line: &mut [u8], at: usize, words: [u32; 16], count: usize) -> usiz
     place
 }
 
-fn print(line: &[u8], size: usize) {
-    if size <= line.len() {
-        io::write_all(STDOUT_FILENO, &line[..size]);
-    }
-}
-
 // Puts the first `count` words behind a label, and prints the line.
 pub(crate) fn print_words(line: &mut [u8], at: usize, words: [u32; 16], count: usize)
     requires { ⌜ count ≤ 16 ⌝ }
 {
     let end = put_words(line, at, words, count);
     let size = text::put(line, end, b"\n");
-    print(line, size);
+    io::write_all(STDOUT_FILENO, text::first(line, size));
 }
 
 fn put_salted(line: &mut [u8], at: usize, salted: bool) -> usize {

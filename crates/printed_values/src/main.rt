@@ -6,9 +6,9 @@ mod lines;
 mod messages;
 mod states;
 
-use compress::Family;
-use compress::LargeFamily;
-use compress::SmallFamily;
+use family::Family;
+use family::LargeFamily;
+use family::SmallFamily;
 use messages::Message;
 
 fn master_line(label: &[u8], family: Family, count: usize)
@@ -16,7 +16,7 @@ fn master_line(label: &[u8], family: Family, count: usize)
 {
     let mut line = [0u8; 256];
     let at = text::put(&mut line, 0, label);
-    lines::print_words(&mut line, at, compress::master_value(family), count);
+    lines::print_words(&mut line, at, startup::master_value(family), count);
 }
 
 fn start_line(family: Family, m: u16, count: usize)
@@ -25,7 +25,7 @@ fn start_line(family: Family, m: u16, count: usize)
     let mut line = [0u8; 256];
     let at = text::put(&mut line, 0, b"IV_");
     let end = text::put_decimal(&mut line, at, m as u64);
-    lines::print_words(&mut line, end, compress::starting_value(family, m), count);
+    lines::print_words(&mut line, end, startup::starting_value(family, m), count);
 }
 
 fn digest_line(m: u16, salted: bool, message: Message) {

@@ -1,5 +1,5 @@
 // The appendix's four messages.
-use digest::State;
+use state::State;
 
 pub enum Message {
     Empty,

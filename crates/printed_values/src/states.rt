@@ -1,30 +1,21 @@
 // How a digest starts and ends: by the rule, and as the appendix was made.
 ghost use Prim.Native.Nat.{_≤_};
 use crate::messages::Message;
-use compress::Counter;
-use compress::Family;
-use compress::LargeFamily;
-use compress::SmallFamily;
-use digest::Length;
-use digest::State;
+use answers::Length;
+use counter::Counter;
+use family::Family;
+use family::LargeFamily;
+use family::SmallFamily;
+use state::State;
 
+// A digest's words: the lengths that the appendix has are whole words.
 pub(crate) fn word_count(m: u16) -> usize
     ensures { λ r. ⌜ r ≤ 16 ⌝ }
 {
-    match m {
-        224 => 7,
-        256 => 8,
-        384 => 12,
-        _ => 16,
+    if m > LargeFamily::DIGEST_BITS {
+        return LargeFamily::CHAIN_WORDS;
     }
-}
-
-fn family_of(m: u16) -> Family {
-    if m <= 256 {
-        Family::Small
-    } else {
-        Family::Large
-    }
+    (m / 32) as usize
 }
 
 fn salt_byte(m: u16) -> u8 {
@@ -36,20 +27,10 @@ fn salt_byte(m: u16) -> u8 {
     }
 }
 
-fn salt_size(m: u16) -> usize
-    ensures { λ r. ⌜ r ≤ 64 ⌝ }
-{
-    if m <= 256 {
-        SmallFamily::SALT_BYTES
-    } else {
-        LargeFamily::SALT_BYTES
-    }
-}
-
 // The appendix's salt for m bits, with zeros past the family's own size.
 fn salt_of(m: u16) -> [u8; 64] {
     let b = salt_byte(m);
-    let size = salt_size(m);
+    let size = Family::of(m).salt_bytes();
     let mut salt = [0u8; 64];
     let mut i = 0;
     while i < size {
@@ -67,15 +48,15 @@ fn begun(m: u16, salt: &[u8]) -> State {
 pub(crate) fn started_by_rule(m: u16, salted: bool) -> State {
     let salt = salt_of(m);
     if !salted {
-        return begun(m, &salt[..0]);
+        return begun(m, text::first(&salt, 0));
     }
-    let size = salt_size(m);
-    begun(m, &salt[..size])
+    let size = Family::of(m).salt_bytes();
+    begun(m, text::first(&salt, size))
 }
 
 // The appendix's salted digests come out only where both start-up calls have the salt too; the rule has zeros there.
 fn started_with_salt(m: u16) -> State {
-    let family = family_of(m);
+    let family = Family::of(m);
     let salt = salt_of(m);
     let master = compress::compress(family, [0u32; 16], [0u8; 128], Counter::of(0), salt);
     let mut block = [0u8; 128];
@@ -100,10 +81,6 @@ pub(crate) fn started_as_printed(m: u16, salted: bool) -> State {
     started_by_rule(m, false)
 }
 
-fn word(a: u8, b: u8, c: u8, d: u8) -> u32 {
-    (a as u32) | ((b as u32) << 8) | ((c as u32) << 16) | ((d as u32) << 24)
-}
-
 // A digest's bytes as words, the low byte first.
 pub(crate) fn ended_by_rule(state: State) -> [u32; 16] {
     let mut bytes = [0u8; 64];
@@ -116,7 +93,7 @@ fn words_of(bytes: [u8; 64]) -> [u32; 16] {
     let mut i = 0;
     while i < 16 {
         let at = 4 * i;
-        words[i] = word(bytes[at], bytes[at + 1], bytes[at + 2], bytes[at + 3]);
+        words[i] = words::word(bytes[at], bytes[at + 1], bytes[at + 2], bytes[at + 3]);
         i += 1;
     }
     words
@@ -132,16 +109,18 @@ fn ended_with_length(state: State) -> [u32; 16] {
     let bits: u64 = 8000000;
     let mut block = [0u8; 128];
     block[0] = 0x80;
-    block[54] = (bits % 256) as u8;
-    block[55] = (bits / 256 % 256) as u8;
-    block[56] = (bits / 65536) as u8;
-    block[62] = (m % 256) as u8;
-    block[63] = (m / 256) as u8;
+    let at = SmallFamily::PAD_LIMIT + 1;
+    block[at] = (bits % 256) as u8;
+    block[at + 1] = (bits / 256 % 256) as u8;
+    block[at + 2] = (bits / 65536) as u8;
+    let end = at + SmallFamily::LENGTH_BYTES;
+    block[end] = (m % 256) as u8;
+    block[end + 1] = (m / 256) as u8;
     compress::compress(family, chain, block, Counter::of(bits), salt)
 }
 
 fn ended_million(state: State) -> [u32; 16] {
-    if state.m <= 256 {
+    if state.m <= SmallFamily::DIGEST_BITS {
         return ended_with_length(state);
     }
     ended_by_rule(state)

@@ -1,25 +1,28 @@
 -- The numbers of a check's answer are small: R at most 24, N at most 1,024, the register that differs below R.
 use mathlib.Core.Path.{_≡_, refl}
-use mathlib.Core.Bool.{Bool, true, false}
+use mathlib.Core.Bool.{Bool, true, false, cond}
 use mathlib.Core.List.{List}
-use Prim.Native.Nat.{ℕ, zero, suc, _+_, _*_, _≤_}
+use Prim.Native.Nat.{ℕ, zero, suc, _+_, _*_, _≤_, _<_}
 use native.Mathlib.Omega.{arith}
 use lib.Dec.{eqb}
 use lib.ListN.{length, replicate}
-use borrow.Author.Tests.{le-ltb}
-use Rattle.digest.specs.Blocks.{pick}
-use Rattle.bootlog.specs.declared.layout.Layout.{Layout}
-use Rattle.bootlog.specs.declared.layout.Reading.{Reading}
-use Rattle.bootlog.specs.declared.layout.Reading.the-variants.{Whole, Refused}
-use Rattle.bootlog.specs.declared.checking.Verdict.the-variants.{NoClaim, Differs}
-use Rattle.bootlog.specs.declared.checking.Checked.{Checked}
-use Rattle.bootlog.specs.declared.checking.Checked.the-variants as checked
-use Rattle.bootlog.specs.Layout.{readingOf, claimsOf}
+use borrow.Author.Tests.{lt-ltb, le-ltb, lt-leb}
+use Rattle.answers.specs.declared.reading.Layout.{Layout}
+use Rattle.answers.specs.declared.reading.Reading.{Reading}
+use Rattle.answers.specs.declared.reading.Reading.the-variants as reading
+use Rattle.answers.specs.declared.checked.Verdict.the-variants.{NoClaim, Differs}
+use Rattle.answers.specs.declared.checked.Checked.{Checked}
+use Rattle.answers.specs.declared.checked.Checked.the-variants as checked
+use Rattle.layout.specs.Layout.{readingOf, claimsOf}
 use Rattle.bootlog.specs.Replay.{registerAt}
-use Rattle.bootlog.specs.Check.{same, endsOf, compared, verdictOf, checkedAt, checkOf, checkBuffer, checkRegisters}
-use Rattle.bootlog.proofs.Sizes.{counts}
+use Rattle.bootlog.specs.Check.{same, endsOf, compared, verdictOf, checkedAt, checkOf, checkBuffer}
+use Rattle.answers.specs.Checked.{checkRegisters}
+use Rattle.answers.specs.declared.refusal.Refusal.the-variants.{BufferShort}
+use Rattle.answers.specs.declared.printed.Printed.the-variants.{Text, Refused}
+use Rattle.text.specs.Place.{placed}
+use Rattle.layout.proofs.Sizes.{counts}
 use Rattle.bootlog.proofs.Logs.{log-blocks}
-use Rattle.printout.specs.Printout.{textOf, printoutOf}
+use Rattle.printout.specs.Printout.{textOf, printoutOf, printOf}
 use Rattle.printout.specs.Wrote.{Room}
 use Rattle.printout.proofs.Lengths.{Register, Modest, text-length}
 
@@ -28,7 +31,7 @@ unfolding compared
 compared-small ends claims r zero h = tt
 compared-small ends claims r (suc n) h = by (same (registerAt ends r) (registerAt claims r)) (compared-small ends claims (suc r) n (omega arith))
   where
-    by : (t : Bool) → Register (compared ends claims (suc r) n) → Register (pick t (compared ends claims (suc r) n) (Differs r))
+    by : (t : Bool) → Register (compared ends claims (suc r) n) → Register (cond t (compared ends claims (suc r) n) (Differs r))
     by true g = g
     by false g = omega arith
 
@@ -36,7 +39,7 @@ verdict-small : (log : List ℕ) (at : Layout) → at .registers ≤ 24 → Regi
 unfolding verdictOf
 verdict-small log at h = by (eqb (at .claims) 0)
   where
-    by : (t : Bool) → Register (pick t NoClaim (compared (endsOf log at) (claimsOf log at) 0 (at .registers)))
+    by : (t : Bool) → Register (cond t NoClaim (compared (endsOf log at) (claimsOf log at) 0 (at .registers)))
     by true = tt
     by false = compared-small (endsOf log at) (claimsOf log at) 0 (at .registers) (omega arith)
 
@@ -45,8 +48,8 @@ unfolding checkOf checkedAt
 modest log = by (readingOf log) refl
   where
     by : (x : Reading) → readingOf log ≡ x → Modest (checkOf log 768)
-    by (Refused r) e = rw (e, checkOf) tt
-    by (Whole at) e =
+    by (reading.Refused r) e = rw (e, checkOf) tt
+    by (reading.Whole at) e =
         let c = counts log at e in
         rw (e, checkOf, le-ltb 768 (32 * at .registers) (omega (arith, c .most)), log-blocks log at e)
         (c .most, c .events, omega (arith, c .events), verdict-small log at (c .most))
@@ -66,3 +69,13 @@ module _ (log bank : List ℕ) {c : Checked} (e : c ≡ checkOf log 768) where
   pub printed : bank ≡ checkBuffer log (replicate 768 0) → textOf c bank ≡ printoutOf log
   unfolding printoutOf
   printed b = rw (e, b)
+
+-- what print answers and leaves, for a text of n bytes
+module _ (log out : List ℕ) {n : ℕ} (e : n ≡ length (printoutOf log)) where
+  pub print-short : length out < n → (Refused BufferShort ≡ printOf log (length out)) × (out ≡ placed out 0 (printoutOf log))
+  unfolding printOf placed
+  print-short h = (rw (lt-ltb (length out) (length (printoutOf log)) (omega arith)), rw (lt-leb (0 + length (printoutOf log)) (length out) (omega arith)))
+
+  pub print-put : n ≤ length out → {b : List ℕ} → b ≡ placed out 0 (printoutOf log) → (Text n ≡ printOf log (length out)) × (b ≡ placed out 0 (printoutOf log))
+  unfolding printOf
+  print-put h f = (rw (le-ltb (length out) (length (printoutOf log)) (omega arith), e), f)

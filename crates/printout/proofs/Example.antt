@@ -3,7 +3,7 @@ use mathlib.Core.Path.{_≡_, refl}
 use mathlib.Core.List.{List, [], _∷_, _++_}
 use Prim.Native.Nat.{ℕ}
 use lib.ListN.{replicate}
-use Rattle.bootlog.specs.Layout.{numberAt, sectionEnd, eventsEnd, saltEnd, registersEnd, eventSectionEnd, claimsEnd, readingOf, saltOf, startsOf, eventsOf}
+use Rattle.layout.specs.Layout.{numberAt, sectionEnd, eventsEnd, saltEnd, registersEnd, eventSectionEnd, claimsEnd, readingOf, saltOf, startsOf, eventsOf}
 use Rattle.bootlog.specs.Replay.{eventList, registerAt, replayed, replayBlocks}
 use Rattle.bootlog.specs.Check.{endsOf, verdictOf, checkedAt, checkOf, checkBuffer}
 use Rattle.text.specs.Digits.{digit, hexIn, hexOf, decimalIn, decimalOf}

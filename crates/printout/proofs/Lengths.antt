@@ -6,13 +6,13 @@ use native.Mathlib.Omega.{arith}
 use lib.Dec.{eqb}
 use lib.ListN.{length, take, drop, length-append, length-take}
 use borrow.Author.Tests.{eq-eqb}
-use Rattle.digest.specs.declared.refusal.Refusal.{Refusal}
-use Rattle.digest.specs.declared.refusal.Refusal.the-variants.{DigestLength, SaltSize, MessageLimit, StateInconsistent, BufferShort, LogExtent, SectionCount, EventRegister}
-use Rattle.digest.specs.Refusal.{refusalNumber}
-use Rattle.bootlog.specs.declared.checking.Verdict.{Verdict}
-use Rattle.bootlog.specs.declared.checking.Verdict.the-variants.{NoClaim, Agrees, Differs}
-use Rattle.bootlog.specs.declared.checking.Checked.{Checked}
-use Rattle.bootlog.specs.declared.checking.Checked.the-variants.{Accepted, Refused}
+use Rattle.answers.specs.declared.refusal.Refusal.{Refusal}
+use Rattle.answers.specs.declared.refusal.Refusal.the-variants.{DigestLength, SaltSize, MessageLimit, StateInconsistent, BufferShort, LogExtent, SectionCount, EventRegister}
+use Rattle.answers.specs.Refusal.{refusalNumber}
+use Rattle.answers.specs.declared.checked.Verdict.{Verdict}
+use Rattle.answers.specs.declared.checked.Verdict.the-variants.{NoClaim, Agrees, Differs}
+use Rattle.answers.specs.declared.checked.Checked.{Checked}
+use Rattle.answers.specs.declared.checked.Checked.the-variants.{Accepted, Refused}
 use Rattle.bootlog.specs.Replay.{registerAt}
 use Rattle.text.specs.Digits.{decimalIn, decimalOf, hexOf}
 use Rattle.text.proofs.Storing.{hex-length}

@@ -1,20 +1,17 @@
 -- Text stored piece by piece is the whole text stored.
 use mathlib.Core.Path.{_≡_, refl, ap, sym, _∙_}
-use mathlib.Core.List.{List, [], _∷_, _++_}
+use mathlib.Core.List.{List, _++_}
 use Prim.Native.Nat.{ℕ, zero, suc, _+_, _*_, _-_, _≤_, _<_}
 use native.Mathlib.Omega.{arith}
-use lib.ListN.{length, take, drop, set, length-append}
+use lib.ListN.{length, take, drop, length-append}
 use lib.Seq.{sets, length-sets, sets-eq, take-at}
 use borrow.Author.Tests.{le-leb}
 use Rattle.bootlog.specs.Replay.{registerAt}
+use Rattle.digest.proofs.Stores.{sets-sets}
 use Rattle.text.specs.Place.{placed, placeAfter}
 use Rattle.text.proofs.Storing.{place}
 use Rattle.printout.specs.Printout.{registerLine, registerLines}
 use Rattle.printout.specs.Wrote.{Room, Wrote}
-
-sets-append : (out : List ℕ) (at : ℕ) (xs ys : List ℕ) → sets out at (xs ++ ys) ≡ sets (sets out at xs) (at + length xs) ys
-sets-append out at [] ys = let e : at + 0 ≡ at = omega arith in rw e
-sets-append out at (x ∷ xs) ys = let e : at + suc (length xs) ≡ suc at + length xs = omega arith in rw e (sets-append (set out at x) (suc at) xs ys)
 
 -- what text promises, where there is room
 pub stored : {out : List ℕ} {at : ℕ} {xs out′ : List ℕ} {at′ : ℕ} → Room out at xs
@@ -28,7 +25,7 @@ module _ {out xs out₁ : List ℕ} {at at₁ : ℕ} (w : Wrote out at xs out₁
   pub both : {ys out₂ : List ℕ} {at₂ : ℕ} → Wrote out₁ at₁ ys out₂ at₂ → Wrote out at (xs ++ ys) out₂ at₂
   both {ys} v = record {
     place = omega (arith, w .place, v .place, length-append xs ys);
-    buffer = v .buffer ∙ (rw (w .buffer, w .place) (sym (sets-append out at xs ys)));
+    buffer = v .buffer ∙ (rw (w .buffer, w .place) (sets-sets out at xs ys));
   }
 
   pub sized : length out₁ ≡ length out

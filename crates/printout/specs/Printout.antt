@@ -1,12 +1,17 @@
 -- The text of one check (document 01, "Cases at the edges"), in ASCII. Numbers are decimal.
+use mathlib.Core.Bool.{cond}
 use mathlib.Core.List.{List, [], _∷_, _++_}
 use Prim.Native.Nat.{ℕ, zero, suc}
-use lib.ListN.{replicate}
-use Rattle.digest.specs.Refusal.{refusalNumber}
-use Rattle.bootlog.specs.declared.checking.Verdict.{Verdict}
-use Rattle.bootlog.specs.declared.checking.Verdict.the-variants.{NoClaim, Agrees, Differs}
-use Rattle.bootlog.specs.declared.checking.Checked.{Checked}
-use Rattle.bootlog.specs.declared.checking.Checked.the-variants.{Accepted, Refused}
+use lib.Dec.{ltb}
+use lib.ListN.{length, replicate}
+use Rattle.answers.specs.declared.refusal.Refusal.the-variants.{BufferShort}
+use Rattle.answers.specs.declared.printed.Printed.{Printed}
+use Rattle.answers.specs.declared.printed.Printed.the-variants as printed
+use Rattle.answers.specs.Refusal.{refusalNumber}
+use Rattle.answers.specs.declared.checked.Verdict.{Verdict}
+use Rattle.answers.specs.declared.checked.Verdict.the-variants.{NoClaim, Agrees, Differs}
+use Rattle.answers.specs.declared.checked.Checked.{Checked}
+use Rattle.answers.specs.declared.checked.Checked.the-variants.{Accepted, Refused}
 use Rattle.bootlog.specs.Replay.{registerAt}
 use Rattle.bootlog.specs.Check.{checkOf, checkBuffer}
 use Rattle.text.specs.Digits.{decimalOf, hexOf}
@@ -19,26 +24,26 @@ abbrev pub feed : List ℕ
 feed = 10 ∷ []
 
 -- "accepted ", "refused ", "noclaim", "agrees", "differs "
-abbrev pub accepted : List ℕ
-accepted = 97 ∷ 99 ∷ 99 ∷ 101 ∷ 112 ∷ 116 ∷ 101 ∷ 100 ∷ space
+abbrev pub acceptedWord : List ℕ
+acceptedWord = 97 ∷ 99 ∷ 99 ∷ 101 ∷ 112 ∷ 116 ∷ 101 ∷ 100 ∷ space
 
-abbrev pub refused : List ℕ
-refused = 114 ∷ 101 ∷ 102 ∷ 117 ∷ 115 ∷ 101 ∷ 100 ∷ space
+abbrev pub refusedWord : List ℕ
+refusedWord = 114 ∷ 101 ∷ 102 ∷ 117 ∷ 115 ∷ 101 ∷ 100 ∷ space
 
-abbrev pub noclaim : List ℕ
-noclaim = 110 ∷ 111 ∷ 99 ∷ 108 ∷ 97 ∷ 105 ∷ 109 ∷ []
+abbrev pub noclaimWord : List ℕ
+noclaimWord = 110 ∷ 111 ∷ 99 ∷ 108 ∷ 97 ∷ 105 ∷ 109 ∷ []
 
-abbrev pub agrees : List ℕ
-agrees = 97 ∷ 103 ∷ 114 ∷ 101 ∷ 101 ∷ 115 ∷ []
+abbrev pub agreesWord : List ℕ
+agreesWord = 97 ∷ 103 ∷ 114 ∷ 101 ∷ 101 ∷ 115 ∷ []
 
-abbrev pub differs : List ℕ
-differs = 100 ∷ 105 ∷ 102 ∷ 102 ∷ 101 ∷ 114 ∷ 115 ∷ space
+abbrev pub differsWord : List ℕ
+differsWord = 100 ∷ 105 ∷ 102 ∷ 102 ∷ 101 ∷ 114 ∷ 115 ∷ space
 
 -- A verdict: noclaim, agrees, or "differs 3" for register 3.
 unfoldable pub verdictText : Verdict → List ℕ
-verdictText NoClaim = noclaim
-verdictText Agrees = agrees
-verdictText (Differs r) = differs ++ decimalOf r
+verdictText NoClaim = noclaimWord
+verdictText Agrees = agreesWord
+verdictText (Differs r) = differsWord ++ decimalOf r
 
 -- A register's line: number, value in lower-case hex, byte 0 first.
 unfoldable pub registerLine : List ℕ → ℕ → List ℕ
@@ -55,9 +60,13 @@ spaced n = decimalOf n ++ space
 
 -- Line 1: the word accepted, R, N, blocks compressed, verdict; then the registers. A refusal is the single line "refused 6" with its number.
 unfoldable pub textOf : Checked → List ℕ → List ℕ
-textOf (Accepted r n b v) bank = accepted ++ (spaced r ++ (spaced n ++ (spaced b ++ (verdictText v ++ (feed ++ registerLines bank r)))))
-textOf (Refused x) bank = refused ++ (decimalOf (refusalNumber x) ++ feed)
+textOf (Accepted r n b v) bank = acceptedWord ++ (spaced r ++ (spaced n ++ (spaced b ++ (verdictText v ++ (feed ++ registerLines bank r)))))
+textOf (Refused x) bank = refusedWord ++ (decimalOf (refusalNumber x) ++ feed)
 
 -- the text of a log's check; the bank has room for 24 registers, the most that a log has
 unfoldable pub printoutOf : List ℕ → List ℕ
 printoutOf log = textOf (checkOf log 768) (checkBuffer log (replicate 768 0))
+
+-- The answer of print into a buffer of so many bytes: the text's length, or 5 where there is less room.
+unfoldable pub printOf : List ℕ → ℕ → Printed
+printOf log room = cond (ltb room (length (printoutOf log))) (printed.Refused BufferShort) (printed.Text (length (printoutOf log)))

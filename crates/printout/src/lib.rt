@@ -2,13 +2,15 @@
 ghost use mathlib.Core.Path.{_≡_};
 ghost use Prim.Native.Nat.{_+_, _*_, _≤_};
 ghost use lib.ListN.{length};
-ghost use Rattle.bootlog.specs.Check.{checkRegisters};
+ghost use Rattle.answers.specs.Checked.{checkRegisters};
 ghost use Rattle.text.specs.Digits.{decimalOf, hexOf};
-ghost use Rattle.text.specs.Place.{placed, placeAfter};
-ghost use Rattle.printout.specs.Printout.{verdictText, registerLine, registerLines, spaced, textOf, printoutOf};
+ghost use Rattle.text.specs.Place.{placed};
+ghost use Rattle.printout.specs.Printout.{verdictText, registerLine, registerLines, spaced, textOf, printoutOf, printOf};
 ghost use Rattle.printout.specs.Wrote.{Room, Wrote};
-use bootlog::Checked;
-use bootlog::Verdict;
+use answers::Checked;
+use answers::Printed;
+use answers::Refusal;
+use answers::Verdict;
 
 // The calls of text, where there is room.
 fn word(out: &mut [u8], at: usize, bytes: &[u8]) -> usize
@@ -105,13 +107,17 @@ fn compose(out: &mut [u8], bank: &[u8], checked: Checked) -> usize
 }
 
 // Checks a log and puts the check's text at the buffer's front: all of it, or nothing where it does not fit.
-pub fn print(log: &[u8], out: &mut [u8]) -> usize
-    ensures place { λ r. ⌜ r ≡ placeAfter (length (now (out .entry))) 0 (printoutOf (now (log .entry))) ⌝ }
+pub fn print(log: &[u8], out: &mut [u8]) -> Printed
+    ensures result { λ r. ⌜ r ≡ printOf (now (log .entry)) (length (now (out .entry))) ⌝ }
     ensures buffer { λ r. ⌜ now (out .exit) ≡ placed (now (out .entry)) 0 (printoutOf (now (log .entry))) ⌝ }
 {
     let mut bank = [0u8; 768];
     let checked = bootlog::check(log, &mut bank);
     let mut whole = [0u8; 2048];
     let n = compose(&mut whole, &bank, checked);
-    text::put(out, 0, &whole[..n])
+    if out.len() < n {
+        return Printed::Refused(Refusal::BufferShort);
+    }
+    text::put(out, 0, &whole[..n]);
+    Printed::Text(n)
 }

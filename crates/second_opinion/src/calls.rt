@@ -4,7 +4,7 @@ use crate::hashing;
 use crate::logs;
 use crate::show;
 use crate::words;
-use digest::State;
+use state::State;
 
 // A line has at most this many bytes.
 const LONGEST: usize = 131072;

@@ -7,9 +7,9 @@ use crate::parse::Kind;
 use crate::parse::Number;
 use crate::show;
 use crate::words;
-use compress::Family;
-use digest::Length;
-use digest::State;
+use answers::Length;
+use family::Family;
+use state::State;
 
 // The numbers of a state.
 enum Numbers {

@@ -6,7 +6,7 @@ use crate::parse::Bits;
 use crate::parse::Bytes;
 use crate::show;
 use crate::words;
-use digest::State;
+use state::State;
 
 // The answer's number, and the state handed back.
 fn stepped(out: &mut [u8], name: &[u8], step: digest::Step) -> Said {
@@ -27,14 +27,14 @@ pub(crate) fn begin(line: &[u8], state: State, salt: &mut [u8], out: &mut [u8]) 
     let Bytes::Are(n) = parse::read_bytes(words::word(line, 2), salt) else {
         return calls::unreadable(state, out);
     };
-    stepped(out, b"begin", digest::begin(m, words::first(salt, n)))
+    stepped(out, b"begin", digest::begin(m, text::first(salt, n)))
 }
 
 pub(crate) fn add(line: &[u8], state: State, data: &mut [u8], out: &mut [u8]) -> Said {
     let Bytes::Are(n) = parse::read_bytes(words::word(line, 1), data) else {
         return calls::unreadable(state, out);
     };
-    stepped(out, b"add", digest::add(state, words::first(data, n)))
+    stepped(out, b"add", digest::add(state, text::first(data, n)))
 }
 
 // What finish reports, and the state handed back.
@@ -97,8 +97,8 @@ pub(crate) fn one_shot(
     };
     into_buffer(
         m,
-        words::first(salt, s),
-        words::first(data, d),
+        text::first(salt, s),
+        text::first(data, d),
         words::word(line, 4),
         lent,
         out,

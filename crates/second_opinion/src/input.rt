@@ -1,11 +1,9 @@
 // Standard input, a chunk at a time, and the lines in it.
 use crate::calls;
 use crate::words;
-use compress::Family;
-use digest::Length;
-use digest::State;
 use libc::STDIN_FILENO;
 use libc::STDOUT_FILENO;
+use state::State;
 
 // How much of a line is kept so far, and the current state.
 struct Kept {
@@ -16,15 +14,7 @@ struct Kept {
 fn at_start() -> Kept {
     Kept {
         size: 0,
-        state: State {
-            family: Family::Small,
-            m: 0,
-            salt: [0u8; 64],
-            chain: [0u32; 16],
-            covered: Length(0),
-            compressed: 0,
-            held: [0u8; 128],
-        },
+        state: state::zero_state(),
     }
 }
 
@@ -64,7 +54,7 @@ fn reply(
     }
     let said = calls::answer(line, state, salt, data, lent, out);
     let end = text::put(out, said.size, b"\n");
-    io::write_all(STDOUT_FILENO, words::first(out, end));
+    io::write_all(STDOUT_FILENO, text::first(out, end));
     said.state
 }
 
@@ -91,7 +81,7 @@ fn feed(
             };
         }
         at = stop + 1;
-        let next = reply(words::first(line, size), state, salt, data, lent, out);
+        let next = reply(text::first(line, size), state, salt, data, lent, out);
         state = next;
         size = 0;
     }
@@ -106,7 +96,7 @@ fn end(kept: Kept, line: &[u8], salt: &mut [u8], data: &mut [u8], lent: &mut [u8
     let size = kept.size;
     let state = kept.state;
     if size > 0 {
-        reply(words::first(line, size), state, salt, data, lent, out);
+        reply(text::first(line, size), state, salt, data, lent, out);
     }
 }
 
@@ -129,7 +119,7 @@ pub(crate) fn run(
             end(kept, line, salt, data, lent, out);
             return;
         }
-        let next = feed(words::first(chunk, n), kept, line, salt, data, lent, out);
+        let next = feed(text::first(chunk, n), kept, line, salt, data, lent, out);
         kept = next;
     }
 }

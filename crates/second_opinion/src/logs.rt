@@ -22,5 +22,5 @@ pub(crate) fn check(line: &[u8], data: &mut [u8], lent: &mut [u8], out: &mut [u8
     let Bytes::Are(n) = parse::read_bytes(words::word(line, 1), data) else {
         return show::unreadable(out);
     };
-    into_buffer(words::first(data, n), words::word(line, 2), lent, out)
+    into_buffer(text::first(data, n), words::word(line, 2), lent, out)
 }

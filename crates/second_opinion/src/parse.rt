@@ -2,7 +2,7 @@
 ghost use Prim.Native.Nat.{_*_, _≤_};
 ghost use lib.ListN.{length};
 use crate::words;
-use compress::Family;
+use family::Family;
 
 // How many bytes were read. No contract bounds the number, so whoever takes that part of a slice tests it again.
 pub(crate) enum Bytes {

@@ -1,9 +1,9 @@
 // Writing words to a line: each is put behind a space, and the answer is the place behind it.
-use bootlog::Checked;
-use bootlog::Verdict;
-use compress::Family;
-use digest::Report;
-use digest::State;
+use answers::Checked;
+use answers::Report;
+use answers::Verdict;
+use family::Family;
+use state::State;
 
 // The whole line, where the one read is not as the format has it.
 pub(crate) fn unreadable(out: &mut [u8]) -> usize {
@@ -78,17 +78,9 @@ pub(crate) fn state(out: &mut [u8], at: usize, state: State) -> usize {
 
 // The refusal number or 0, the bytes covered and the blocks compressed.
 pub(crate) fn report(out: &mut [u8], at: usize, report: Report) -> usize {
-    match report {
-        Report::Covers(covered, compressed) => {
-            let a = number(out, at, 0);
-            let b = number(out, a, covered.0);
-            number(out, b, compressed)
-        }
-        Report::Refused(refusal) => {
-            let a = number(out, at, refusal.number() as u64);
-            text::put(out, a, b" 0 0")
-        }
-    }
+    let a = number(out, at, report.number() as u64);
+    let b = number(out, a, report.covered());
+    number(out, b, report.blocks())
 }
 
 fn verdict(out: &mut [u8], at: usize, verdict: Verdict) -> usize {
@@ -104,17 +96,9 @@ fn verdict(out: &mut [u8], at: usize, verdict: Verdict) -> usize {
 
 // The refusal number or 0, the registers, the events, the blocks compressed and the verdict.
 pub(crate) fn checked(out: &mut [u8], at: usize, checked: Checked) -> usize {
-    match checked {
-        Checked::Accepted(registers, events, blocks, found) => {
-            let a = number(out, at, 0);
-            let b = number(out, a, registers as u64);
-            let c = number(out, b, events as u64);
-            let d = number(out, c, blocks as u64);
-            verdict(out, d, found)
-        }
-        Checked::Refused(refusal) => {
-            let a = number(out, at, refusal.number() as u64);
-            text::put(out, a, b" 0 0 0 noclaim")
-        }
-    }
+    let a = number(out, at, checked.number() as u64);
+    let b = number(out, a, checked.registers() as u64);
+    let c = number(out, b, checked.events() as u64);
+    let d = number(out, c, checked.blocks() as u64);
+    verdict(out, d, checked.verdict())
 }

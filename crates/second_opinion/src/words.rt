@@ -68,12 +68,3 @@ pub(crate) fn same(a: &[u8], b: &[u8]) -> bool {
     }
     true
 }
-
-// The first n bytes, or all where there are fewer.
-pub(crate) fn first(bytes: &[u8], n: usize) -> &[u8] {
-    if n <= bytes.len() {
-        &bytes[0..n]
-    } else {
-        bytes
-    }
-}

@@ -1,8 +1,8 @@
 // Standard input, added to a digest.
-use digest::Answer;
-use digest::Refusal;
-use digest::State;
+use answers::Answer;
+use answers::Refusal;
 use libc::STDIN_FILENO;
+use state::State;
 
 pub enum Status {
     More,

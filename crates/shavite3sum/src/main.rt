@@ -4,11 +4,11 @@ mod arguments;
 mod input;
 mod output;
 
+use answers::Answer;
 use arguments::Asked;
 use arguments::Salt;
-use digest::Answer;
-use digest::State;
 use input::Status;
+use state::State;
 
 fn print_finished(state: State) {
     let m = state.m;
@@ -24,7 +24,7 @@ fn digest_input(state: State) {
     let status = turn.status;
     match status {
         Status::End => print_finished(turn.state),
-        Status::Refused(refusal) => output::print_refusal(refusal),
+        Status::Refused(refusal) => output::print_refusal(refusal.number()),
         _ => output::complain(b"standard input cannot be read"),
     }
 }
@@ -34,14 +34,14 @@ fn run(m: u16, salt: &[u8]) {
     let answer = step.answer;
     match answer {
         Answer::Accepted => digest_input(step.state),
-        Answer::Refused(refusal) => output::print_refusal(refusal),
+        Answer::Refused(refusal) => output::print_refusal(refusal.number()),
     }
 }
 
 fn run_salted(m: u16, count: usize) {
     let mut salt = [0u8; 64];
     match arguments::salt_bytes(count, &mut salt) {
-        Salt::Bytes(size) => run(m, output::first(&salt, size)),
+        Salt::Bytes(size) => run(m, text::first(&salt, size)),
         Salt::Digits => output::complain(b"the salt is not hex digits, two a byte"),
         Salt::Long => output::complain(b"the salt is over 64 bytes"),
     }

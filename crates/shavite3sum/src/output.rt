@@ -1,13 +1,7 @@
 // What the program writes.
-use digest::Refusal;
-use digest::Report;
+use answers::Report;
 use libc::STDERR_FILENO;
 use libc::STDOUT_FILENO;
-
-// The first n bytes, or all where there are fewer.
-pub(crate) fn first(s: &[u8], n: usize) -> &[u8] {
-    if n <= s.len() { &s[..n] } else { s }
-}
 
 pub(crate) fn complain(message: &[u8]) {
     io::write_all(STDERR_FILENO, b"shavite3sum: ");
@@ -15,12 +9,12 @@ pub(crate) fn complain(message: &[u8]) {
     io::write_all(STDERR_FILENO, b"\n");
 }
 
-pub(crate) fn print_refusal(refusal: Refusal) {
+pub(crate) fn print_refusal(number: u8) {
     let mut line = [0u8; 32];
     let at = text::put(&mut line, 0, b"refused ");
-    let end = text::put_decimal(&mut line, at, refusal.number() as u64);
+    let end = text::put_decimal(&mut line, at, number as u64);
     let size = text::put(&mut line, end, b"\n");
-    io::write_all(STDOUT_FILENO, first(&line, size));
+    io::write_all(STDOUT_FILENO, text::first(&line, size));
 }
 
 fn print_digest(digest: &[u8], covered: u64, blocks: u64) {
@@ -31,12 +25,13 @@ fn print_digest(digest: &[u8], covered: u64, blocks: u64) {
     let d = text::put(&mut line, c, b" ");
     let e = text::put_decimal(&mut line, d, blocks);
     let size = text::put(&mut line, e, b"\n");
-    io::write_all(STDOUT_FILENO, first(&line, size));
+    io::write_all(STDOUT_FILENO, text::first(&line, size));
 }
 
 pub(crate) fn print_report(report: Report, bytes: &[u8], count: usize) {
-    match report {
-        Report::Covers(covered, blocks) => print_digest(first(bytes, count), covered.0, blocks),
-        Report::Refused(refusal) => print_refusal(refusal),
+    if report.number() != 0 {
+        print_refusal(report.number());
+        return;
     }
+    print_digest(text::first(bytes, count), report.covered(), report.blocks());
 }

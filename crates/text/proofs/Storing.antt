@@ -1,13 +1,13 @@
 -- The steps of the loops that store text, and what the tests before them say.
 use mathlib.Core.Path.{_≡_, refl, ap, sym, _∙_}
-use mathlib.Core.Bool.{Bool, true, false, not}
+use mathlib.Core.Bool.{Bool, true, false}
 use mathlib.Core.List.{List, [], _∷_}
 use Prim.Native.Nat.{ℕ, suc, _+_, _-_, _*_, _≤_, _<_}
 use native.Mathlib.Omega.{arith}
 use lib.Dec.{leb}
 use lib.ListN.{length, getD, drop, set, drop-of-length-le}
 use lib.Seq.{sets, drop-cons}
-use borrow.Author.Tests.{le-leb, lt-leb, leb-true, leb-false, not-true, not-false}
+use borrow.Author.Tests.{le-leb, lt-leb, leb-true, leb-false}
 use Rattle.text.specs.Place.{placed, placeAfter}
 use Rattle.text.specs.Digits.{hexIn, hexOf}
 
@@ -68,13 +68,6 @@ hex-none out at xs h = no-place out at (hexOf xs) (rw (hex-length xs) h)
 pub hex-placed : (out : List ℕ) (at : ℕ) (xs : List ℕ) → leb (at + 2 * length xs) (length out) ≡ true
     → (at + 2 * length xs ≡ placeAfter (length out) at (hexOf xs)) × (sets out at (hexOf xs) ≡ placed out at (hexOf xs))
 hex-placed out at xs h = let p = place out at (hexOf xs) (rw (hex-length xs) h) in (rw (hex-length xs) at (p .0), p .1)
-
--- a test that fell and one that held, of what a call returned
-pub fell : {t u : Bool} → t ≡ u → not t ≡ true → u ≡ false
-fell e h = sym e ∙ not-true _ h
-
-pub held : {t u : Bool} → t ≡ u → not t ≡ false → u ≡ true
-held e h = sym e ∙ not-false _ h
 
 -- what one text does, another that is equal to it does
 pub same-text : (out : List ℕ) (at : ℕ) {xs ys : List ℕ} → xs ≡ ys → {r : ℕ} {b : List ℕ} → (r ≡ placeAfter (length out) at xs) × (b ≡ placed out at xs)

@@ -4,7 +4,7 @@ ghost use mathlib.Core.Path.{_≡_};
 ghost use mathlib.Core.List.{[], _∷_};
 ghost use Prim.Native.Nat.{_+_, _≤_, _%_};
 ghost use lib.Dec.{leb};
-ghost use lib.ListN.{length};
+ghost use lib.ListN.{length, take};
 ghost use lib.Seq.{sets};
 ghost use Rattle.text.specs.Place.{placed, placeAfter};
 ghost use Rattle.text.specs.Digits.{digit, hexOf, upperOf, decimalOf};
@@ -121,4 +121,11 @@ pub fn put_decimal(out: &mut [u8], at: usize, n: u64) -> usize
     let mut digits = [0u8; 20];
     let count = io::decimal(n, &mut digits);
     put(out, at, &digits[..count])
+}
+
+// The first n bytes, or all where there are fewer.
+pub fn first(bytes: &[u8], n: usize) -> &[u8]
+    ensures { λ r. ⌜ now r ≡ take n (now (bytes .entry)) ⌝ }
+{
+    if n <= bytes.len() { &bytes[..n] } else { bytes }
 }

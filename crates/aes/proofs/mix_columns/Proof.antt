@@ -1,10 +1,10 @@
--- `mix_columns` meets its contract: after c turns the first c columns are done.
+-- After c turns the first c columns are done.
 use Prim.Native.Nat.{_-_}
 use borrow.Author.Needs.{needs}
 use mathlib.Core.List.{List, []}
 use Prim.Native.Nat.{ℕ}
 use Rattle.aes.specs.Round.{four, mixByte, mixColumns}
-use Rattle.aes.proofs.Columns.{Turned, turned-start, turned-more, turned-end}
+use Rattle.aes.proofs.Columns.{Turned, turned-start, turned-more, turned-four}
 use Rattle.aes.proofs.mix_columns.Statement.{statement}
 use Rattle.aes.proofs.mix_columns.Tie as tie
 
@@ -12,7 +12,7 @@ abbrev done : List ℕ → List ℕ
 done a = four (λ r. mixByte r a)
 
 abbrev Inv-loop : tie.InvT-loop
-Inv-loop t₀ c₀ t c = Turned [] done t₀ t c
+Inv-loop t₀ c₀ t c = Turned [] done 4 t₀ t c
 
 abbrev μ-loop : tie.MeasureT-loop
 μ-loop t₀ c₀ t c = 4 - c
@@ -22,7 +22,7 @@ loop-again c = turned-more [] done (c .before .before .before .loop .inv) (searc
 
 returns : tie.Need-returns Inv-loop μ-loop
 unfolding mixColumns
-returns c = turned-end [] done (c .before .loop .inv) (search needs)
+returns c = turned-four [] done (c .before .loop .inv) (search needs)
 
 pub mix-columns-spec : {M : Type 1} → statement M
 mix-columns-spec =
@@ -30,7 +30,7 @@ mix-columns-spec =
     (tie.spec
     Inv-loop
     μ-loop
-    (λ c. turned-start [] done _ (search needs))
+    (λ c. turned-start [] done 4 _ (search needs))
     (λ c. search needs)
     (λ c. search needs)
     (λ c κs. search needs)

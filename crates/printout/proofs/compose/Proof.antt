@@ -4,11 +4,11 @@ use mathlib.Core.List.{List, _++_}
 use Prim.Native.Nat.{ℕ, _*_, _≤_}
 use lib.ListN.{length}
 use borrow.Author.Needs.{needs}
-use Rattle.digest.specs.Refusal.{refusalNumber}
-use Rattle.bootlog.specs.declared.checking.Checked.{Checked}
-use Rattle.bootlog.specs.Check.{checkRegisters}
+use Rattle.answers.specs.Refusal.{refusalNumber}
+use Rattle.answers.specs.declared.checked.Checked.{Checked}
+use Rattle.answers.specs.Checked.{checkRegisters}
 use Rattle.text.specs.Digits.{decimalOf}
-use Rattle.printout.specs.Printout.{feed, accepted, refused, verdictText, registerLines, spaced, textOf}
+use Rattle.printout.specs.Printout.{feed, acceptedWord, refusedWord, verdictText, registerLines, spaced, textOf}
 use Rattle.printout.specs.Wrote.{Room, Wrote}
 use Rattle.printout.proofs.Writing.{both, rest, same-room, same-wrote, first}
 use Rattle.printout.proofs.compose.Statement.{statement}
@@ -33,7 +33,7 @@ afterRegisters k = spaced (k .checked .given .0 .1 .0) ++ afterEvents k
 abbrev afterWord : tie.After-checked → List ℕ
 afterWord k = spaced (k .checked .given .0 .0) ++ afterRegisters k
 
-room : (k : tie.After-checked) → Room (start k .args .out .now) 0 (accepted ++ afterWord k)
+room : (k : tie.After-checked) → Room (start k .args .out .now) 0 (acceptedWord ++ afterWord k)
 unfolding textOf
 room k = same-room (ap (λ (x : Checked). textOf x (start k .args .bank .now)) (k .checked .given .1)) (start k .pre .0)
 
@@ -73,7 +73,7 @@ room5 : (c : tie.After-verdict) → Room (c .verdict .last .0) (c .verdict .resu
 room5 c = rest (c .verdict .ensures) (room4 (c .before .before .before .before))
 
 word-requires : tie.Need-word-requires
-word-requires c κs = let k = c .before .before .before in first {xs = accepted} (afterWord k) (room k)
+word-requires c κs = let k = c .before .before .before in first {xs = acceptedWord} (afterWord k) (room k)
 
 spaced-number-requires : tie.Need-spaced-number-requires
 spaced-number-requires c κs = let w = c .before .before .before in first (afterRegisters (k1 w)) (room1 w)
@@ -121,12 +121,12 @@ begin k = k .before .before .before .before
 abbrev numberText : tie.After-checked2 → List ℕ
 numberText k = decimalOf (refusalNumber (k .checked2 .given .0 .0))
 
-roomR : (k : tie.After-checked2) → Room (begin k .args .out .now) 0 (refused ++ (numberText k ++ feed))
+roomR : (k : tie.After-checked2) → Room (begin k .args .out .now) 0 (refusedWord ++ (numberText k ++ feed))
 unfolding textOf
 roomR k = same-room (ap (λ (x : Checked). textOf x (begin k .args .bank .now)) (k .checked2 .given .1)) (begin k .pre .0)
 
 word-requires-3 : tie.Need-word-requires-3
-word-requires-3 c κs = let k = c .before .before .before in first {xs = refused} (numberText k ++ feed) (roomR k)
+word-requires-3 c κs = let k = c .before .before .before in first {xs = refusedWord} (numberText k ++ feed) (roomR k)
 
 behindWord : (c : tie.After-word3) → Room (c .word3 .last .0) (c .word3 .result) (numberText (c .before .before .before .before) ++ feed)
 behindWord c = rest (c .word3 .ensures) (roomR (c .before .before .before .before))

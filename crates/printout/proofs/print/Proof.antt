@@ -1,12 +1,14 @@
--- The text fits the local buffer, whose front then is the text of the log's check.
-use mathlib.Core.Path.{_∙_, sym}
+-- The text fits the local buffer, whose front then is the text of the log's check; it goes out where there is room for it.
+use mathlib.Core.Path.{_≡_, ap, _∙_, sym}
 use Prim.Native.Nat.{_≤_}
+use native.Mathlib.Omega.{arith}
 use lib.ListN.{length}
 use lib.Seq.{length-take-le}
 use borrow.Author.Needs.{needs}
 use Rattle.text.proofs.Storing.{same-text}
+use Rattle.printout.specs.Printout.{printoutOf}
 use Rattle.printout.proofs.Writing.{front, within}
-use Rattle.printout.proofs.Bounds.{room, banked, printed}
+use Rattle.printout.proofs.Bounds.{room, banked, printed, print-short, print-put}
 use Rattle.printout.proofs.print.Statement.{statement}
 use Rattle.printout.proofs.print.Tie as tie
 
@@ -17,23 +19,34 @@ compose-requires c κs =
     let e = k .check .ensures .0 in
     (room log _ e, banked log (k .check .last .1 .0) e (search needs))
 
-fits : (c : tie.After-put-arg) → c .before .before .compose .result ≤ length (c .before .before .compose .last .0)
-fits c =
-    let d = c .before .before in
-    let k = d .before .before .before .before in
-    within (d .compose .ensures) (room (k .before .before .before .before .args .log .now) _ (k .check .ensures .0))
+abbrev start : tie.After-compose → tie.Start
+start d = d .before .before .before .before .before .before .before .before
 
-slice-aggregate-put : tie.Need-slice-aggregate-put
-slice-aggregate-put c = sym (length-take-le _ _ (fits (c .before)))
+abbrev checked : tie.After-compose → tie.After-check
+checked d = d .before .before .before .before
+
+-- the length that compose answers is the text's
+sized : (d : tie.After-compose) → d .compose .result ≡ length (printoutOf (start d .args .log .now))
+sized d =
+    let e = checked d .check .ensures in
+    omega (arith, d .compose .ensures .place, ap length (printed (start d .args .log .now) _ (e .0) (e .1)))
+
+fits : (d : tie.After-compose) → d .compose .result ≤ length (d .compose .last .0)
+fits d = within (d .compose .ensures) (room (start d .args .log .now) _ (checked d .check .ensures .0))
 
 returns : tie.Need-returns
 returns c =
-    let d = c .before .before .before .before .before .before in
-    let k = d .before .before .before .before in
-    let s = k .before .before .before .before in
-    let log = s .args .log .now in
-    let e = k .check .ensures in
-    same-text (s .args .out .now) 0 (front (d .compose .ensures) (room log _ (e .0)) ∙ printed log _ (e .0) (e .1)) (c .before .before .put .ensures)
+    let d = c .before .before in
+    print-short (start d .args .log .now) (start d .args .out .now) (sized d) (c .if1 .taken)
+
+returns-2 : tie.Need-returns-2
+returns-2 c =
+    let b = c .before .before .before .before .before in
+    let d = b .before .before in
+    let a = start d .args in
+    let e = checked d .check .ensures in
+    let text = front (d .compose .ensures) (room (a .log .now) _ (e .0)) ∙ printed (a .log .now) _ (e .0) (e .1) in
+    print-put (a .log .now) (a .out .now) (sized d) (b .if1 .left) (same-text (a .out .now) 0 text (c .before .before .put .ensures) .1)
 
 pub print-spec : {M : Type 1} → statement M
 print-spec =
@@ -44,8 +57,9 @@ print-spec =
     (λ c. search needs)
     (λ c. search needs)
     compose-requires
-    fits
-    slice-aggregate-put
+    returns
+    (λ c. fits (c .before .before .before))
+    (λ c. sym (length-take-le _ _ (fits (c .before .before .before .before))))
     (λ c κs. search needs)
     (λ c. search needs)
-    returns)
+    returns-2)

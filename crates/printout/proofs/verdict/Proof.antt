@@ -1,7 +1,7 @@
 -- Each verdict's word, and the register behind the last.
 use borrow.Author.Needs.{needs}
 use Rattle.text.specs.Digits.{decimalOf}
-use Rattle.printout.specs.Printout.{differs, verdictText}
+use Rattle.printout.specs.Printout.{differsWord, verdictText}
 use Rattle.printout.proofs.Writing.{both, rest, first}
 use Rattle.printout.proofs.verdict.Statement.{statement}
 use Rattle.printout.proofs.verdict.Tie as tie
@@ -18,7 +18,7 @@ word-requires-3 : tie.Need-word-requires-3
 unfolding verdictText
 word-requires-3 c κs =
     let f = c .before .before .before in
-    first {xs = differs} (decimalOf (f .found .given .0 .0)) (rw (f .found .given .1) at (f .before .before .before .pre))
+    first {xs = differsWord} (decimalOf (f .found .given .0 .0)) (rw (f .found .given .1) at (f .before .before .before .pre))
 
 number-requires : tie.Need-number-requires
 unfolding verdictText

@@ -1,24 +1,24 @@
 -- The bytes are stored where they fit.
-use mathlib.Core.Path.{_≡_, _∙_}
+use mathlib.Core.Path.{_≡_, sym, _∙_}
 use mathlib.Core.Bool.{true}
 use Prim.Native.Nat.{_+_, _≤_}
 use native.Mathlib.Omega.{arith}
 use lib.Dec.{leb}
 use lib.ListN.{length}
 use borrow.Author.Needs.{needs}
-use borrow.Author.Tests.{leb-true}
-use Rattle.text.proofs.Storing.{no-place, place, fell, held}
+use borrow.Author.Tests.{leb-true, not-true, not-false}
+use Rattle.text.proofs.Storing.{no-place, place}
 use Rattle.text.proofs.put.Statement.{statement}
 use Rattle.text.proofs.put.Tie as tie
 
 returns : tie.Need-returns
-returns c = no-place _ _ _ (fell (c .before .fits2 .ensures) (c .if1 .taken))
+returns c = no-place _ _ _ (sym (c .before .fits2 .ensures) ∙ not-true _ (c .if1 .taken))
 
 ok : (c : tie.Else1)
     → leb (c .before .before .before .before .args .at + length (c .before .before .before .before .args .bytes .now))
     (length (c .before .before .before .before .args .out .now))
     ≡ true
-ok c = held (c .before .fits2 .ensures) (c .if1 .left)
+ok c = sym (c .before .fits2 .ensures) ∙ not-false _ (c .if1 .left)
 
 within : (c : tie.Else1)
     → c .before .before .before .before .args .at + length (c .before .before .before .before .args .bytes .now)

@@ -9,8 +9,8 @@ use lib.ListN.{length, drop, getD}
 use lib.Seq.{sets, length-sets}
 use borrow.Author.Needs.{needs}
 use Rattle.text.specs.Digits.{hexOf}
-use Rattle.text.proofs.Storing.{hex-length, hex-step, hex-end, hex-none, hex-placed, fell, held}
-use borrow.Author.Tests.{lt-leb, leb-true}
+use Rattle.text.proofs.Storing.{hex-length, hex-step, hex-end, hex-none, hex-placed}
+use borrow.Author.Tests.{lt-leb, leb-true, not-true, not-false}
 use Rattle.text.proofs.put_hex.Statement.{statement}
 use Rattle.text.proofs.put_hex.Tie as tie
 
@@ -27,12 +27,12 @@ returns c =
     hex-none (a .out .now) (a .at) (a .bytes .now) (lt-leb (a .at + 2 * length (a .bytes .now)) (length (a .out .now)) (omega arith))
 
 returns-2 : tie.Need-returns-2 Inv-loop μ-loop
-returns-2 c = hex-none _ _ _ (fell (c .before .fits2 .ensures) (c .if2 .taken))
+returns-2 c = hex-none _ _ _ (sym (c .before .fits2 .ensures) ∙ not-true _ (c .if2 .taken))
 
 ok : (c : tie.Else2 Inv-loop μ-loop)
     → leb (c .before .before .before .before .before .args .at + 2 * length (c .before .before .before .before .before .args .bytes .now))
     (length (c .before .before .before .before .before .args .out .now)) ≡ true
-ok c = held (c .before .fits2 .ensures) (c .if2 .left)
+ok c = sym (c .before .fits2 .ensures) ∙ not-false _ (c .if2 .left)
 
 within : (c : tie.Else2 Inv-loop μ-loop)
     → c .before .before .before .before .before .args .at + 2 * length (c .before .before .before .before .before .args .bytes .now)

@@ -3,7 +3,7 @@ use mathlib.Core.Path.{_≡_, refl}
 use Prim.Native.Nat.{_+_, _-_, _*_, _≤_}
 use native.Mathlib.Omega.{arith}
 use denote.Ref.{now}
-use Rattle.compress.specs.Words.{times, roundOf, fourAt}
+use Rattle.words.specs.Words.{times, roundOf, fourAt}
 use Rattle.compress.specs.Cipher.{innerOf}
 use Rattle.compress.proofs.Growing.{times-more}
 use Rattle.compress.proofs.cipher.inner.Statement.{statement}

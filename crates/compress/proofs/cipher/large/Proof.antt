@@ -3,7 +3,7 @@ use mathlib.Core.Path.{_≡_, refl}
 use Prim.Native.Nat.{_+_, _-_, _*_, _≤_}
 use native.Mathlib.Omega.{arith}
 use Rattle.compress.specs.declared.cipher.Quarters.{Quarters}
-use Rattle.compress.specs.Words.{times}
+use Rattle.words.specs.Words.{times}
 use Rattle.compress.specs.Cipher.{quartersRound, innerOf, largeCipher}
 use Rattle.compress.proofs.Rounds.{quarters-step}
 use Rattle.compress.proofs.cipher.large.Statement.{statement}

@@ -5,10 +5,10 @@ use native.Mathlib.Omega.{arith}
 use denote.Ref.{now}
 use mathlib.Core.List.{append-nil}
 use lib.ListN.{length, take, drop}
-use Rattle.compress.proofs.Numbers.{numbers, block-first, run-inside}
-use Rattle.compress.specs.Family.{blockWords}
-use Rattle.compress.specs.Family as table
-use Rattle.compress.specs.Words.{times}
+use Rattle.family.proofs.Numbers.{numbers, block-first, run-inside}
+use Rattle.family.specs.Family.{blockWords}
+use Rattle.family.specs.Family as table
+use Rattle.words.specs.Words.{times}
 use Rattle.compress.specs.Expansion.{runOf, expandOf}
 use Rattle.compress.proofs.Growing.{runs-step, runs-all}
 use Rattle.compress.proofs.expansion.expand.Statement.{statement}
@@ -16,7 +16,7 @@ use Rattle.compress.proofs.expansion.expand.Tie as tie
 
 abbrev Inv-loop : tie.InvT-loop
 Inv-loop family w₀ c s runs r₀ w r =
-    (r ≤ runs) × (length w ≡ blockWords family * (table.runs family + 1))
+    (r ≤ runs) × (length w ≡ table.expandedWords family)
     × (take (blockWords family * (r + 1)) w ≡ times r (runOf family c s) (take (blockWords family) w₀))
 
 abbrev μ-loop : tie.MeasureT-loop

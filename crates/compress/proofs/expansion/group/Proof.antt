@@ -3,7 +3,7 @@ use native.Mathlib.Omega.{arith}
 use denote.Ref.{now}
 use lib.Seq.{length-take-le}
 use Rattle.compress.specs.Expansion.{groupOf}
-use Rattle.compress.proofs.Numbers.{numbers}
+use Rattle.family.proofs.Numbers.{numbers}
 use Rattle.compress.proofs.expansion.group.Statement.{statement}
 use Rattle.compress.proofs.expansion.group.Tie as tie
 

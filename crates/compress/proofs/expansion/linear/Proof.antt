@@ -4,7 +4,7 @@ use Prim.Native.Nat.{_+_, _-_, _≤_}
 use native.Mathlib.Nat.{add-zero}
 use native.Mathlib.Omega.{arith}
 use lib.ListN.{length, take, length-set}
-use Rattle.compress.specs.Words.{times}
+use Rattle.words.specs.Words.{times}
 use Rattle.compress.specs.Expansion.{linearRun}
 use Rattle.compress.proofs.Growing.{linear-step}
 use Rattle.compress.proofs.expansion.linear.Statement.{statement}

@@ -6,11 +6,11 @@ use native.Mathlib.Omega.{arith}
 use denote.Ref.{now}
 use lib.ListN.{length, take}
 use borrow.Author.Needs.{needs}
-use Rattle.compress.specs.Family.{blockWords}
-use Rattle.compress.specs.Words.{times}
+use Rattle.family.specs.Family.{blockWords}
+use Rattle.words.specs.Words.{times}
 use Rattle.compress.specs.Expansion.{places, nonlinearRun}
 use Rattle.compress.proofs.Growing.{nonlinear-step}
-use Rattle.compress.proofs.Numbers.{numbers}
+use Rattle.family.proofs.Numbers.{numbers}
 use Rattle.compress.proofs.expansion.nonlinear.Statement.{statement}
 use Rattle.compress.proofs.expansion.nonlinear.Tie as tie
 

@@ -2,7 +2,7 @@ use borrow.Author.Needs.{needs}
 use native.Mathlib.Omega.{arith}
 use mathlib.Core.Path.{sym, _∙_}
 use Rattle.compress.proofs.Growing.{run-even, run-odd}
-use Rattle.compress.proofs.Numbers.{numbers, run-start}
+use Rattle.family.proofs.Numbers.{numbers, run-start}
 use Rattle.compress.proofs.expansion.run.Statement.{statement}
 use Rattle.compress.proofs.expansion.run.Tie as tie
 

@@ -10,10 +10,10 @@ use Rattle.digest.proofs.bytes.copy_out.Statement.{statement}
 use Rattle.digest.proofs.bytes.copy_out.Tie as tie
 
 abbrev Inv-loop : tie.InvT-loop
-Inv-loop count out₀ bytes i₀ out i = (i ≤ count) × (out ≡ take i bytes ++ drop i out₀)
+Inv-loop size out₀ bytes i₀ out i = (i ≤ size) × (out ≡ take i bytes ++ drop i out₀)
 
 abbrev μ-loop : tie.MeasureT-loop
-μ-loop count out₀ bytes i₀ out i = count - i
+μ-loop size out₀ bytes i₀ out i = size - i
 
 out-length : (c : tie.At-loop Inv-loop μ-loop) → length (c .loop .out) ≡ length (c .before .args .out .now)
 out-length c =
@@ -31,7 +31,7 @@ loop-again c =
 
 returns : tie.Need-returns Inv-loop μ-loop
 returns c =
-    let e : c .before .loop .i ≡ c .before .before .args .count = omega arith in
+    let e : c .before .loop .i ≡ c .before .before .args .size = omega arith in
     rw e at (c .before .loop .inv .1)
 
 pub copy-out-spec : {M : Type 1} → statement M

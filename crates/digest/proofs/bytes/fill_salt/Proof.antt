@@ -5,8 +5,8 @@ use native.Mathlib.Omega.{arith}
 use lib.ListN.{length, take}
 use lib.Seq.{take-all}
 use borrow.Author.Needs.{needs}
-use Rattle.digest.specs.Bytes.{fill}
-use Rattle.digest.proofs.Filling.{fill-nil}
+use Rattle.state.specs.Bytes.{fill}
+use Rattle.state.proofs.Filling.{fill-nil}
 use Rattle.digest.proofs.Stores.{fill-step}
 use Rattle.digest.proofs.bytes.fill_salt.Statement.{statement}
 use Rattle.digest.proofs.bytes.fill_salt.Tie as tie

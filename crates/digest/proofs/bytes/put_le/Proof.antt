@@ -4,7 +4,7 @@ use mathlib.Core.Path.{_≡_, _∙_, sym}
 use native.Mathlib.Omega.{arith}
 use lib.Seq.{sets}
 use borrow.Author.Needs.{needs}
-use Rattle.digest.specs.Bytes.{le}
+use Rattle.state.specs.Bytes.{le}
 use Rattle.digest.proofs.Stores.{put-step, put-end}
 use Rattle.digest.proofs.bytes.put_le.Statement.{statement}
 use Rattle.digest.proofs.bytes.put_le.Tie as tie

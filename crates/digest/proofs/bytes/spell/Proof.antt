@@ -6,7 +6,7 @@ use native.Mathlib.Omega.{arith}
 use lib.ListN.{length, take, getD}
 use lib.Seq.{sets, length-sets, take-all}
 use borrow.Author.Needs.{needs}
-use Rattle.digest.specs.Bytes.{le, bytesOf}
+use Rattle.state.specs.Bytes.{le, bytesOf}
 use Rattle.digest.proofs.Stores.{spell-step}
 use Rattle.digest.proofs.bytes.spell.Statement.{statement}
 use Rattle.digest.proofs.bytes.spell.Tie as tie

@@ -6,8 +6,8 @@ use native.Mathlib.Nat.{mod-le}
 use lib.ListN.{length, take, length-take, length-map}
 use lib.Seq.{take-all}
 use borrow.Author.Needs.{needs}
-use Rattle.digest.proofs.Sizes.{block-pos, block-max}
-use Rattle.digest.proofs.Soundness.{Sound, sound}
+use Rattle.family.proofs.Sizes.{block-pos, block-max}
+use Rattle.state.proofs.Soundness.{Sound, sound}
 use Rattle.digest.proofs.Middle.{Mid, mid-start, compressed-max, next-more, next-block, mid-end}
 use Rattle.digest.proofs.calls.absorb.Statement.{statement}
 use Rattle.digest.proofs.calls.absorb.Tie as tie
@@ -88,9 +88,10 @@ loop-again-2 c =
 
 returns : tie.Need-returns Inv-loop μ-loop
 returns c =
-    let l = c .before .before in
+    let d = c .before in
+    let l = d .before in
     let a = start (sizing l) in
-    mid-end (a .args .state) (ok a) (full a) (rw (take-all _ _ (c .before .loop-test .left)) at (l .loop .inv .1))
+    rw (c .reach .ensures) (mid-end (a .args .state) (ok a) (full a) (rw (take-all _ _ (d .loop-test .left)) at (l .loop .inv .1)))
 
 pub absorb-spec : {M : Type 1} → statement M
 absorb-spec =
@@ -119,5 +120,5 @@ absorb-spec =
     loop-again
     (λ c. omega (arith, taken (c .before .before)))
     loop-again-2
-    (λ c. omega (arith, start (sizing (c .before .before)) .pre .1))
+    (λ c κs. start (sizing (c .before)) .pre .1)
     returns)

@@ -2,8 +2,8 @@
 use mathlib.Core.Path.{refl}
 use native.Mathlib.Omega.{arith}
 use borrow.Author.Needs.{needs}
-use Rattle.digest.proofs.Soundness.{sound}
-use Rattle.digest.proofs.Tests.{fell, held}
+use Rattle.state.proofs.Soundness.{sound}
+use Rattle.answers.proofs.Tests.{fell, held}
 use Rattle.digest.proofs.Answers.{add-not, add-over, add-in, added}
 use Rattle.digest.proofs.calls.add.Statement.{statement}
 use Rattle.digest.proofs.calls.add.Tie as tie

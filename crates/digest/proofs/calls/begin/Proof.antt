@@ -1,8 +1,9 @@
 -- The tests are the rule's, in its order, and each way hands back the state that the rule names.
 use native.Mathlib.Omega.{arith}
 use borrow.Author.Needs.{needs}
-use Rattle.digest.proofs.Sizes.{salt-max}
-use Rattle.digest.proofs.Tests.{fell, held, salt-size}
+use Rattle.family.proofs.Sizes.{salt-max}
+use Rattle.answers.proofs.Tests.{fell, held}
+use Rattle.digest.proofs.Tests.{salt-size}
 use Rattle.digest.proofs.Answers.{begin-length, begin-salt, begin-in, begun}
 use Rattle.digest.proofs.calls.begin.Statement.{statement}
 use Rattle.digest.proofs.calls.begin.Tie as tie
@@ -14,11 +15,11 @@ returns-2 : tie.Need-returns-2
 returns-2 c =
     let d = c .before .before in
     let a = d .before .before in
-    begun _ _ (begin-salt _ _ (held (a .before .is-allowed .ensures) (a .if1 .left)) (d .before .family-of .ensures) (fell (d .salt-fits .ensures) (c .before .if2 .taken))) (c .zero-state2 .ensures)
+    begun _ _ (begin-salt _ _ (held (a .before .is-allowed .ensures) (a .if1 .left)) (d .before .of .ensures) (fell (d .salt-fits .ensures) (c .before .if2 .taken))) (c .zero-state2 .ensures)
 
 started-requires : tie.Need-started-requires
 started-requires c κs =
-    let f = c .before .before .family-of .result in
+    let f = c .before .before .of .result in
     let a = c .before .before .before .before .before .before in
     omega (arith, salt-max f, salt-size f (a .args .salt .now) (held (c .before .salt-fits .ensures) (c .if2 .left)))
 
@@ -26,7 +27,7 @@ returns-3 : tie.Need-returns-3
 returns-3 c =
     let d = c .before .before in
     let a = d .before .before in
-    begun _ _ (begin-in _ _ (held (a .before .is-allowed .ensures) (a .if1 .left)) (d .before .family-of .ensures) (held (d .salt-fits .ensures) (c .before .if2 .left))) (c .started .ensures)
+    begun _ _ (begin-in _ _ (held (a .before .is-allowed .ensures) (a .if1 .left)) (d .before .of .ensures) (held (d .salt-fits .ensures) (c .before .if2 .left))) (c .started .ensures)
 
 pub begin-spec : {M : Type 1} → statement M
 begin-spec =

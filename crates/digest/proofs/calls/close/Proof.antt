@@ -5,8 +5,8 @@ use native.Mathlib.Omega.{arith}
 use native.Mathlib.Nat.{mod-lt}
 use lib.ListN.{length, length-map}
 use borrow.Author.Needs.{needs}
-use Rattle.digest.proofs.Sizes.{block-pos, block-max}
-use Rattle.digest.proofs.Soundness.{Sound, sound}
+use Rattle.family.proofs.Sizes.{block-pos, block-max}
+use Rattle.state.proofs.Soundness.{Sound, sound}
 use Rattle.digest.proofs.Closing.{close-one, close-two}
 use Rattle.digest.proofs.calls.close.Statement.{statement}
 use Rattle.digest.proofs.calls.close.Tie as tie
@@ -34,7 +34,7 @@ returns : tie.Need-returns
 returns c =
     let p = c .before .before .before .before .before in
     let a = start (p .before) in
-    close-one (a .args .state) (ok a) (full a) (p .before .before .before .block-bytes .ensures) (p .pad-limit .ensures) (c .before .before .before .before .if1 .taken)
+    close-one (a .args .state) (ok a) (full a) (p .before .before .before .block-bytes .ensures) (sym (p .ends-in-one .ensures) ∙ c .before .before .before .before .if1 .taken)
     (c .before .before .before .with-length .ensures) (c .before .before .last-counter .ensures) (c .before .of .ensures) (c .compress .ensures)
 
 returns-2 : tie.Need-returns-2
@@ -42,7 +42,7 @@ returns-2 c =
     let e = c .before .before .before .before .before in
     let p = e .before in
     let a = start (p .before) in
-    close-two (a .args .state) (ok a) (full a) (p .before .before .before .block-bytes .ensures) (p .pad-limit .ensures) (e .if1 .left)
+    close-two (a .args .state) (ok a) (full a) (p .before .before .before .block-bytes .ensures) (sym (p .ends-in-one .ensures) ∙ e .if1 .left)
     (c .before .before .before .before .of2 .ensures) (c .before .before .before .compress2 .ensures) (c .before .before .with-length2 .ensures)
     (c .before .of3 .ensures) (c .compress3 .ensures)
 

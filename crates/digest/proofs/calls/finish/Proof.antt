@@ -4,9 +4,9 @@ use mathlib.Core.Bool.{true}
 use native.Mathlib.Omega.{arith}
 use lib.ListN.{length, length-map}
 use borrow.Author.Needs.{needs}
-use Rattle.digest.specs.State.{consistentOf}
-use Rattle.digest.proofs.Soundness.{sound}
-use Rattle.digest.proofs.Tests.{fell, held}
+use Rattle.state.specs.State.{consistentOf}
+use Rattle.state.proofs.Soundness.{sound}
+use Rattle.answers.proofs.Tests.{fell, held}
 use Rattle.digest.proofs.Answers.{m-max, closing-max, count-max, finish-not, finish-short, finish-refused, finished}
 use Rattle.digest.proofs.calls.finish.Statement.{statement}
 use Rattle.digest.proofs.calls.finish.Tie as tie

@@ -3,10 +3,11 @@ use mathlib.Core.Path.{_≡_}
 use mathlib.Core.Bool.{true}
 use native.Mathlib.Omega.{arith}
 use borrow.Author.Needs.{needs}
-use Rattle.digest.specs.State.{allowed}
+use Rattle.state.specs.State.{allowed}
 use Rattle.digest.specs.Calls.{saltFits}
-use Rattle.digest.proofs.Sizes.{salt-max}
-use Rattle.digest.proofs.Tests.{fell, held, salt-size}
+use Rattle.family.proofs.Sizes.{salt-max}
+use Rattle.answers.proofs.Tests.{fell, held}
+use Rattle.digest.proofs.Tests.{salt-size}
 use Rattle.digest.proofs.Answers.{shot-refused, shot-length, shot-salt, shot-over, shot-short, shot-start, shot}
 use Rattle.digest.proofs.calls.one_shot.Statement.{statement}
 use Rattle.digest.proofs.calls.one_shot.Tie as tie
@@ -17,7 +18,7 @@ start c = c .before .before .before .before
 ok : (c : tie.Else1) → allowed (start (c .before) .args .m) ≡ true
 ok c = held (c .before .is-allowed .ensures) (c .if1 .left)
 
-fits : (c : tie.Else2) → saltFits (c .before .before .family-of .result) (start (c .before .before .before .before) .args .salt .now) ≡ true
+fits : (c : tie.Else2) → saltFits (c .before .before .of .result) (start (c .before .before .before .before) .args .salt .now) ≡ true
 fits c = held (c .before .salt-fits .ensures) (c .if2 .left)
 
 returns : tie.Need-returns
@@ -30,13 +31,13 @@ returns-2 c =
     let f = c .before .before in
     let a = start (f .before .before) .args in
     shot-refused _ _ _ (a .out .now)
-    (shot-salt (a .m) (a .salt .now) (a .bytes .now) (a .out .now) (ok (f .before)) (f .family-of .ensures) (fell (c .before .salt-fits .ensures) (c .if2 .taken)))
+    (shot-salt (a .m) (a .salt .now) (a .bytes .now) (a .out .now) (ok (f .before)) (f .of .ensures) (fell (c .before .salt-fits .ensures) (c .if2 .taken)))
 
 returns-3 : tie.Need-returns-3
 returns-3 c =
     let f = c .before .before .before in
     let a = start (f .before .before) .args in
-    shot-refused _ _ _ (a .out .now) (shot-over (a .m) (a .salt .now) (a .bytes .now) (a .out .now) (ok (f .before)) (f .family-of .ensures) (fits (c .before)) (c .if3 .taken))
+    shot-refused _ _ _ (a .out .now) (shot-over (a .m) (a .salt .now) (a .bytes .now) (a .out .now) (ok (f .before)) (f .of .ensures) (fits (c .before)) (c .if3 .taken))
 
 returns-4 : tie.Need-returns-4
 returns-4 c =
@@ -44,13 +45,13 @@ returns-4 c =
     let f = e .before .before in
     let a = start (f .before .before) .args in
     shot-refused _ _ _ (a .out .now)
-    (shot-short (a .m) (a .salt .now) (a .bytes .now) (a .out .now) (ok (f .before)) (f .family-of .ensures) (fits e) (c .before .if3 .left) (c .if4 .taken))
+    (shot-short (a .m) (a .salt .now) (a .bytes .now) (a .out .now) (ok (f .before)) (f .of .ensures) (fits e) (c .before .if3 .left) (c .if4 .taken))
 
 started-requires : tie.Need-started-requires
 started-requires c κs =
     let e = c .before .before in
     let f = e .before .before in
-    omega (arith, salt-max (f .family-of .result), salt-size (f .family-of .result) (start (f .before .before) .args .salt .now) (fits e))
+    omega (arith, salt-max (f .of .result), salt-size (f .of .result) (start (f .before .before) .args .salt .now) (fits e))
 
 absorb-requires : tie.Need-absorb-requires
 absorb-requires c κs =
@@ -58,7 +59,7 @@ absorb-requires c κs =
     let e = g .before in
     let f = e .before .before in
     let a = start (f .before .before) .args in
-    shot-start (a .m) (a .salt .now) (a .bytes .now) (a .out .now) (ok (f .before)) (f .family-of .ensures) (fits e) (g .if3 .left) (c .started .ensures)
+    shot-start (a .m) (a .salt .now) (a .bytes .now) (a .out .now) (ok (f .before)) (f .of .ensures) (fits e) (g .if3 .left) (c .started .ensures)
 
 returns-5 : tie.Need-returns-5
 returns-5 c =
@@ -68,7 +69,7 @@ returns-5 c =
     let e = g .before in
     let f = e .before .before in
     let a = start (f .before .before) .args in
-    shot (a .m) (a .salt .now) (a .bytes .now) (a .out .now) (ok (f .before)) (f .family-of .ensures) (fits e) (g .if3 .left)
+    shot (a .m) (a .salt .now) (a .bytes .now) (a .out .now) (ok (f .before)) (f .of .ensures) (fits e) (g .if3 .left)
     (w .before .started .ensures) (w .absorb .ensures) (d .finish .ensures .0) (d .finish .ensures .1)
 
 pub one-shot-spec : {M : Type 1} → statement M

@@ -5,7 +5,7 @@ use Rattle.digest.proofs.calls.started.Statement.{statement}
 use Rattle.digest.proofs.calls.started.Tie as tie
 
 returns : tie.Need-returns
-returns c = start-made _ _ (c .before .before .family-of .ensures) (c .before .starting-value .ensures) (c .fill-salt .ensures)
+returns c = start-made _ _ (c .before .before .of .ensures) (c .before .starting-value .ensures) (c .fill-salt .ensures)
 
 pub started-spec : {M : Type 1} → statement M
 started-spec =

@@ -2,7 +2,7 @@
 use Prim.Native.Nat.{_+_, _≤_}
 use native.Mathlib.Omega.{arith}
 use borrow.Author.Needs.{needs}
-use Rattle.digest.proofs.Sizes.{block-max, sizes}
+use Rattle.family.proofs.Sizes.{block-max, sizes}
 use Rattle.digest.proofs.Closing.{length-stored}
 use Rattle.digest.proofs.calls.with_length.Statement.{statement}
 use Rattle.digest.proofs.calls.with_length.Tie as tie

@@ -1,6 +1,8 @@
 -- Each turn stores one byte of the family's salt.
 use Prim.Native.Nat.{_-_, _≤_}
+use native.Mathlib.Omega.{arith}
 use borrow.Author.Needs.{needs}
+use Rattle.family.proofs.Sizes.{salt-max}
 use Rattle.printed_values.proofs.states.salt_of.Statement.{statement}
 use Rattle.printed_values.proofs.states.salt_of.Tie as tie
 
@@ -10,14 +12,8 @@ Inv-loop m b size salt₀ i₀ salt i = i ≤ size
 abbrev μ-loop : tie.MeasureT-loop
 μ-loop m b size salt₀ i₀ salt i = size - i
 
-loop-holds : tie.Need-loop-holds Inv-loop μ-loop
-loop-holds c = search needs
-
-loop-again : tie.Need-loop-again Inv-loop μ-loop
-loop-again c = search needs
-
-returns : tie.Need-returns Inv-loop μ-loop
-returns c = search needs
+sized : (c : tie.After-salt-bytes Inv-loop μ-loop) → c .salt-bytes .result ≤ 64
+sized c = omega (arith, c .salt-bytes .ensures, salt-max (c .before .of .result))
 
 pub salt-of-spec : {M : Type 1} → statement M
 salt-of-spec =
@@ -27,9 +23,10 @@ salt-of-spec =
     μ-loop
     (λ c κs. search needs)
     (λ c κs. search needs)
-    loop-holds
+    (λ c κs. search needs)
+    (λ c. search needs)
+    (λ c. omega (arith, sized (c .before .before)))
     (λ c. search needs)
     (λ c. search needs)
     (λ c. search needs)
-    loop-again
-    returns)
+    (λ c. search needs))

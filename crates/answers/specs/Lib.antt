@@ -1,0 +1,5 @@
+pub mod Refusal
+pub mod Report
+pub mod Reading
+pub mod Checked
+pub mod Printed

@@ -1,0 +1,33 @@
+-- The numbers given on refusal (document 01), and the values of each answer.
+use mathlib.Core.Bool.{Bool, true, false}
+use mathlib.Core.List.{List, [], _∷_}
+use Prim.Native.Nat.{ℕ}
+use Rattle.answers.specs.declared.refusal.Refusal.{Refusal}
+use Rattle.answers.specs.declared.refusal.Refusal.the-variants.{DigestLength, SaltSize, MessageLimit, StateInconsistent, BufferShort, LogExtent, SectionCount, EventRegister}
+use Rattle.answers.specs.declared.refusal.Answer.{Answer}
+use Rattle.answers.specs.declared.refusal.Answer.the-variants.{Accepted, Refused}
+
+-- document 01's table of refusals
+abbrev pub refusalNumber : Refusal → ℕ
+refusalNumber DigestLength = 1
+refusalNumber SaltSize = 2
+refusalNumber MessageLimit = 3
+refusalNumber StateInconsistent = 4
+refusalNumber BufferShort = 5
+refusalNumber LogExtent = 6
+refusalNumber SectionCount = 7
+refusalNumber EventRegister = 8
+
+-- 0 where the call is accepted
+abbrev pub answerNumber : Answer → ℕ
+answerNumber Accepted = 0
+answerNumber (Refused r) = refusalNumber r
+
+-- The tests of a call in their order, each with the refusal given where it holds: the first that holds decides. No refusal is given otherwise.
+abbrev pub judged : List (Bool × Refusal) → Answer
+judged [] = Accepted
+judged (t ∷ ts) = elim (t .0) [ true ↦ Refused (t .1) | false ↦ judged ts ]
+
+abbrev pub ifAccepted : {A : Type 0} → Answer → A → A → A
+ifAccepted Accepted a b = a
+ifAccepted (Refused r) a b = b

@@ -1,0 +1,27 @@
+-- The number and values of what finish and one-shot report (document 01: "those of finish and one-shot report covered and compressed as 0").
+use Prim.Native.Nat.{ℕ}
+use Rattle.answers.specs.declared.refusal.Answer.{Answer}
+use Rattle.answers.specs.declared.refusal.Answer.the-variants as answer
+use Rattle.answers.specs.declared.report.Report.{Report}
+use Rattle.answers.specs.declared.report.Report.the-variants.{Covers, Refused}
+use Rattle.answers.specs.Refusal.{refusalNumber}
+
+-- 0 where the call is accepted
+abbrev pub reportNumber : Report → ℕ
+reportNumber (Covers n k) = 0
+reportNumber (Refused r) = refusalNumber r
+
+-- bytes covered, and 0 on a refusal
+abbrev pub reportCovered : Report → ℕ
+reportCovered (Covers n k) = n .0
+reportCovered (Refused r) = 0
+
+-- blocks compressed, and 0 on a refusal
+abbrev pub reportBlocks : Report → ℕ
+reportBlocks (Covers n k) = k
+reportBlocks (Refused r) = 0
+
+-- the report of a call's answer
+abbrev pub reported : Answer → ℕ → ℕ → Report
+reported answer.Accepted n k = Covers (record { 0 = n }) k
+reported (answer.Refused r) n k = Refused r

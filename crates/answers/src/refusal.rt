@@ -1,0 +1,49 @@
+// Every refusal of the project, and the answer of a call that hands back a state.
+ghost use mathlib.Core.Path.{_≡_};
+ghost use Rattle.answers.specs.Refusal.{refusalNumber, answerNumber};
+
+pub enum Refusal {
+    DigestLength,
+    SaltSize,
+    MessageLimit,
+    StateInconsistent,
+    BufferShort,
+    LogExtent,
+    SectionCount,
+    EventRegister,
+}
+
+pub enum Answer {
+    Accepted,
+    Refused(Refusal),
+}
+
+impl Refusal {
+    // The number in document 01's table.
+    pub fn number(self) -> u8
+        ensures { λ r. ⌜ r ≡ refusalNumber self ⌝ }
+    {
+        match self {
+            Refusal::DigestLength => 1,
+            Refusal::SaltSize => 2,
+            Refusal::MessageLimit => 3,
+            Refusal::StateInconsistent => 4,
+            Refusal::BufferShort => 5,
+            Refusal::LogExtent => 6,
+            Refusal::SectionCount => 7,
+            Refusal::EventRegister => 8,
+        }
+    }
+}
+
+impl Answer {
+    // 0 where the call was accepted.
+    pub fn number(self) -> u8
+        ensures { λ r. ⌜ r ≡ answerNumber self ⌝ }
+    {
+        match self {
+            Answer::Accepted => 0,
+            Answer::Refused(refusal) => refusal.number(),
+        }
+    }
+}

@@ -1,0 +1,51 @@
+-- Finishing the state of a message gives what one-shot gives for it.
+use mathlib.Core.Path.{_≡_, refl}
+use mathlib.Core.Bool.{Bool, true, false, not}
+use mathlib.Core.List.{List, [], _∷_}
+use Prim.Native.Nat.{ℕ, _≤_}
+use native.Mathlib.Omega.{arith}
+use lib.ListN.{length}
+use borrow.Author.Tests.{not-false, le-ltb}
+use Rattle.family.specs.Family.{familyOf}
+use Rattle.answers.specs.declared.refusal.Refusal.{Refusal}
+use Rattle.answers.specs.declared.refusal.Refusal.the-variants.{DigestLength, SaltSize}
+use Rattle.answers.specs.declared.refusal.Answer.the-variants.{Accepted}
+use Rattle.answers.specs.Refusal.{judged}
+use Rattle.state.specs.State.{limit, allowed, consistentOf}
+use Rattle.digest.specs.Running.{stateOf}
+use Rattle.digest.specs.Calls.{saltFits, beginAnswer, beginOf, finishAnswer, finishOf, finishBuffer, oneShotAnswer, oneShotOf, oneShotBuffer}
+use Rattle.digest.proofs.Cuts.{state-consistent, state-digest, state-count}
+
+-- What is known where a call of two tests is accepted.
+pub passed : (a t : Bool) (r r' : Refusal) → judged ((not a, r) ∷ (t, r') ∷ []) ≡ Accepted → (a ≡ true) × (t ≡ false)
+passed true false r r' h = (refl, refl)
+passed true true r r' h =
+    let z : _≡_ {A = ℕ} 0 1 = cc in
+    absurd (omega arith)
+passed false t r r' h =
+    let z : _≡_ {A = ℕ} 0 1 = cc in
+    absurd (omega arith)
+
+module _ (m : ℕ) (salt : List ℕ) (h : beginAnswer m salt ≡ Accepted) where
+  pub begin-accepted : (allowed m ≡ true) × (saltFits (familyOf m) salt ≡ true)
+  unfolding beginAnswer
+  begin-accepted =
+      let p = passed (allowed m) (not (saltFits (familyOf m) salt)) DigestLength SaltSize h in
+      (p .0, not-false (saltFits (familyOf m) salt) (p .1))
+
+  pub begin-state : beginOf m salt .state ≡ stateOf m salt []
+  unfolding beginOf
+  begin-state = rw h
+
+  module _ (xs : List ℕ) (room : length xs ≤ limit) where
+    pub consistent : consistentOf (stateOf m salt xs) ≡ true
+    consistent = state-consistent m salt xs (begin-accepted .0) (begin-accepted .1) room
+
+    same-answer : (out : List ℕ) → finishAnswer (stateOf m salt xs) out ≡ oneShotAnswer m salt xs out
+    unfolding finishAnswer oneShotAnswer stateOf
+    same-answer out = rw (consistent, begin-accepted .0, begin-accepted .1, le-ltb limit (length xs) room)
+
+    -- Finishing the state of xs reports and writes what one-shot does for xs.
+    pub finish-one-shot : (out : List ℕ) → (finishOf (stateOf m salt xs) out .report ≡ oneShotOf m salt xs out) × (finishBuffer (stateOf m salt xs) out ≡ oneShotBuffer m salt xs out)
+    unfolding finishOf oneShotOf finishBuffer oneShotBuffer stateOf
+    finish-one-shot out = (rw (same-answer out, state-count m salt xs), rw (same-answer out, state-digest m salt xs))

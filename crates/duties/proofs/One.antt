@@ -1,0 +1,114 @@
+-- The first duty.
+use mathlib.Core.Path.{_≡_, refl, _∙_}
+use mathlib.Core.Bool.{Bool, true, false, not, cond}
+use mathlib.Core.List.{List, [], _∷_, List·Memᴰ, List·Memᴰ·head, List·Memᴰ·tail, Memᴰ·append-left}
+use Prim.Native.Nat.{ℕ, _+_, _*_, _/_}
+use lib.Dec.{ltb}
+use lib.ListN.{length}
+use native.Mathlib.Omega.{arith}
+use borrow.Author.Tests.{lt-leb, ltb-true}
+use Rattle.answers.specs.declared.refusal.Refusal.{Refusal}
+use Rattle.answers.specs.declared.refusal.Refusal.the-variants.{DigestLength, SaltSize, MessageLimit, StateInconsistent, BufferShort}
+use Rattle.answers.specs.declared.refusal.Answer.{Answer}
+use Rattle.answers.specs.declared.refusal.Answer.the-variants as answer
+use Rattle.answers.specs.declared.reading.Reading.{Reading}
+use Rattle.answers.specs.declared.reading.Reading.the-variants as reading
+use Rattle.answers.specs.declared.checked.Verdict.{Verdict}
+use Rattle.answers.specs.declared.checked.Verdict.the-variants.{NoClaim}
+use Rattle.answers.specs.declared.checked.Checked.{Checked}
+use Rattle.answers.specs.declared.checked.Checked.the-variants as checked
+use Rattle.answers.specs.declared.printed.Printed.the-variants as printed
+use Rattle.answers.specs.Refusal.{refusalNumber, answerNumber, ifAccepted}
+use Rattle.answers.specs.Report.{reportNumber, reportCovered, reportBlocks, reported}
+use Rattle.answers.specs.Reading.{readingNumber, readingRegisters, readingEvents}
+use Rattle.answers.specs.Checked.{checkNumber, checkRegisters, checkEvents, checkBlocks, checkVerdict}
+use Rattle.answers.specs.Printed.{printedNumber, printedLength}
+use Rattle.family.specs.Family.{familyOf}
+use Rattle.state.specs.State.{limit, allowed, consistentOf}
+use Rattle.digest.specs.Calls.{saltFits, beginAnswer, beginOf, addAnswer, addOf, finishAnswer, finishOf, finishBuffer, oneShotAnswer, oneShotOf, oneShotBuffer}
+use Rattle.layout.specs.Layout.{readingOf}
+use Rattle.bootlog.specs.Check.{checkedAt, checkOf, checkBuffer}
+use Rattle.bootlog.proofs.Verdicts.{check-answer, check-buffer, refused-answer, refused-buffer}
+use Rattle.text.specs.Place.{placed}
+use Rattle.printout.specs.Printout.{printoutOf, printOf}
+use Rattle.duties.specs.Asked.{Asked, begin, add, finish, oneShot, read, check, print, answered, listed, StateBack, BufferKept, ValuesZero}
+use Rattle.duties.proofs.Numbers.{logNumbers, Read, whole, refused, judged-listed, reported-number, reading-read, reading-listed}
+
+-- A check is refused by the log's reading, or for its buffer, or accepted.
+module _ (P : Checked → List ℕ → Type 0) (log out : List ℕ)
+    (unread : (r : Refusal) → List·Memᴰ (refusalNumber r) logNumbers → P (checked.Refused r) out)
+    (short : P (checked.Refused BufferShort) out)
+    (done : (r n b : ℕ) (v : Verdict) (after : List ℕ) → P (checked.Accepted r n b v) after) where
+  check-cases : P (checkOf log (length out)) (checkBuffer log out)
+  unfolding checkedAt
+  check-cases = by (readingOf log) refl (reading-read log)
+    where
+      room : (t : Bool) (r n b : ℕ) (v : Verdict) (after : List ℕ) → P (cond t (checked.Refused BufferShort) (checked.Accepted r n b v)) (cond t out after)
+      room true r n b v after = short
+      room false r n b v after = done r n b v after
+
+      by : (x : Reading) → readingOf log ≡ x → Read x → P (checkOf log (length out)) (checkBuffer log out)
+      by (reading.Refused r) e (refused h) = rw (← refused-answer log r e (length out), ← refused-buffer log r e out) (unread r h)
+      by (reading.Whole at) e whole = rw (← check-answer log at e (length out) refl, ← check-buffer log at e out refl) (room (ltb (length out) (32 * at .registers)) _ _ _ _ _)
+
+-- a call's number tells its answer
+not-accepted : {A : Type 0} (a : Answer) (x y : A) → (answerNumber a ≡ 0 → ⊥) → ifAccepted a x y ≡ y
+not-accepted answer.Accepted x y h = absurd (h refl)
+not-accepted (answer.Refused r) x y h = refl
+
+not-reported : (a : Answer) (n k : ℕ) → (reportNumber (reported a n k) ≡ 0 → ⊥) → (reportCovered (reported a n k) ≡ 0) × (reportBlocks (reported a n k) ≡ 0)
+not-reported answer.Accepted n k h = absurd (h refl)
+not-reported (answer.Refused r) n k h = (refl, refl)
+
+-- what a check's refusal leaves
+abbrev Left : List ℕ → Checked → List ℕ → Type 0
+Left out c b = (checkNumber c ≡ 0 → ⊥) → (b ≡ out) × ((checkRegisters c ≡ 0) × (checkEvents c ≡ 0) × (checkBlocks c ≡ 0) × (checkVerdict c ≡ NoClaim))
+
+-- Every call ends with a listed result on every input, spoiled states and cut logs included.
+pub every-call-listed : (c : Asked) → List·Memᴰ (answered c) (listed c)
+unfolding answered listed beginOf beginAnswer addOf addAnswer finishOf finishAnswer oneShotOf oneShotAnswer printOf
+every-call-listed (begin m salt) = judged-listed ((not (allowed m), DigestLength) ∷ (not (saltFits (familyOf m) salt), SaltSize) ∷ [])
+every-call-listed (add s xs) = judged-listed ((not (consistentOf s), StateInconsistent) ∷ (ltb limit (s .covered .0 + length xs), MessageLimit) ∷ [])
+every-call-listed (finish s out) =
+    rw (reported-number (finishAnswer s out) (s .covered .0) _) (judged-listed ((not (consistentOf s), StateInconsistent) ∷ (ltb (length out) (s .m / 8), BufferShort) ∷ []))
+every-call-listed (oneShot m salt xs out) =
+    rw (reported-number (oneShotAnswer m salt xs out) (length xs) _)
+    (judged-listed (
+    (not (allowed m), DigestLength) ∷ (not (saltFits (familyOf m) salt), SaltSize) ∷ (ltb limit (length xs), MessageLimit)
+    ∷ (ltb (length out) (m / 8), BufferShort) ∷ []
+    ))
+every-call-listed (read log) = reading-listed (reading-read log)
+every-call-listed (check log out) =
+    check-cases (λ (c : Checked) (b : List ℕ). List·Memᴰ (checkNumber c) (0 ∷ 6 ∷ 7 ∷ 8 ∷ 5 ∷ [])) log out
+    (λ r m. List·Memᴰ·tail (Memᴰ·append-left (5 ∷ []) m))
+    (List·Memᴰ·tail (List·Memᴰ·tail (List·Memᴰ·tail (List·Memᴰ·tail (List·Memᴰ·head refl)))))
+    (λ r n b v after. List·Memᴰ·head refl)
+every-call-listed (print log out) = by (ltb (length out) (length (printoutOf log)))
+  where
+    by : (t : Bool) → List·Memᴰ (printedNumber (cond t (printed.Refused BufferShort) (printed.Text (length (printoutOf log))))) (0 ∷ 5 ∷ [])
+    by true = List·Memᴰ·tail (List·Memᴰ·head refl)
+    by false = List·Memᴰ·head refl
+
+-- A refusal hands back the state it was given, writes to no lent buffer and answers zero for every other value and count.
+pub refusal-leaves : (c : Asked) → (answered c ≡ 0 → ⊥) → StateBack c × BufferKept c × ValuesZero c
+unfolding answered StateBack BufferKept ValuesZero beginOf addOf finishOf finishBuffer oneShotOf oneShotBuffer printOf placed
+refusal-leaves (begin m salt) h = (not-accepted (beginAnswer m salt) _ _ h, tt, tt)
+refusal-leaves (add s xs) h = (not-accepted (addAnswer s xs) _ _ h, tt, tt)
+refusal-leaves (finish s out) h =
+    (refl, not-accepted (finishAnswer s out) _ _ (λ e. h (reported-number (finishAnswer s out) _ _ ∙ e)), not-reported (finishAnswer s out) _ _ h)
+refusal-leaves (oneShot m salt xs out) h =
+    (tt, not-accepted (oneShotAnswer m salt xs out) _ _ (λ e. h (reported-number (oneShotAnswer m salt xs out) _ _ ∙ e)), not-reported (oneShotAnswer m salt xs out) _ _ h)
+refusal-leaves (read log) h = (tt, tt, by (readingOf log) h)
+  where
+    by : (x : Reading) → (readingNumber x ≡ 0 → ⊥) → (readingRegisters x ≡ 0) × (readingEvents x ≡ 0)
+    by (reading.Whole at) h = absurd (h refl)
+    by (reading.Refused r) h = (refl, refl)
+refusal-leaves (check log out) h =
+    let z = check-cases (Left out) log out (λ r m h. (refl, (refl, refl, refl, refl))) (λ h. (refl, (refl, refl, refl, refl))) (λ r n b v after h. absurd (h refl)) h in
+    (tt, z .0, z .1)
+refusal-leaves (print log out) h = let z = by (ltb (length out) (length (printoutOf log))) refl h in (tt, z .0, z .1)
+  where
+    by : (t : Bool) → ltb (length out) (length (printoutOf log)) ≡ t → (printedNumber (cond t (printed.Refused BufferShort) (printed.Text (length (printoutOf log)))) ≡ 0 → ⊥)
+        → (placed out 0 (printoutOf log) ≡ out) × (printedLength (cond t (printed.Refused BufferShort) (printed.Text (length (printoutOf log)))) ≡ 0)
+    by false e h = absurd (h refl)
+    by true e h = (rw (lt-leb (0 + length (printoutOf log)) (length out) (omega (arith, ltb-true (length out) (length (printoutOf log)) e))), refl)

@@ -1,0 +1,80 @@
+-- Every call of the digest and of the boot log with what it is given: what it answers, and what a refusal leaves (the letter's first duty).
+use mathlib.Core.Path.{_≡_}
+use mathlib.Core.List.{List, [], _∷_}
+use Prim.Native.Nat.{ℕ}
+use lib.ListN.{length}
+use Rattle.answers.specs.declared.checked.Verdict.the-variants.{NoClaim}
+use Rattle.answers.specs.Refusal.{answerNumber}
+use Rattle.answers.specs.Report.{reportNumber, reportCovered, reportBlocks}
+use Rattle.answers.specs.Reading.{readingNumber, readingRegisters, readingEvents}
+use Rattle.answers.specs.Checked.{checkNumber, checkRegisters, checkEvents, checkBlocks, checkVerdict}
+use Rattle.answers.specs.Printed.{printedNumber, printedLength}
+use Rattle.state.specs.declared.State.{State}
+use Rattle.state.specs.State.{zeroState}
+use Rattle.digest.specs.Calls.{beginOf, addOf, finishOf, finishBuffer, oneShotOf, oneShotBuffer}
+use Rattle.layout.specs.Layout.{readingOf}
+use Rattle.bootlog.specs.Check.{checkOf, checkBuffer}
+use Rattle.text.specs.Place.{placed}
+use Rattle.printout.specs.Printout.{printoutOf, printOf}
+
+-- A call: digest length and salt; state and bytes; state and buffer; digest length, salt, message and buffer; log; log and buffer.
+pub data Asked : Type 0 where
+  begin : ℕ → List ℕ → Asked
+  add : State → List ℕ → Asked
+  finish : State → List ℕ → Asked
+  oneShot : ℕ → List ℕ → List ℕ → List ℕ → Asked
+  read : List ℕ → Asked
+  check : List ℕ → List ℕ → Asked
+  print : List ℕ → List ℕ → Asked
+
+-- the answer's number, 0 where the call is accepted
+unfoldable pub answered : Asked → ℕ
+answered (begin m salt) = answerNumber (beginOf m salt .answer)
+answered (add s xs) = answerNumber (addOf s xs .answer)
+answered (finish s out) = reportNumber (finishOf s out .report)
+answered (oneShot m salt xs out) = reportNumber (oneShotOf m salt xs out)
+answered (read log) = readingNumber (readingOf log)
+answered (check log out) = checkNumber (checkOf log (length out))
+answered (print log out) = printedNumber (printOf log (length out))
+
+-- Document 01, "Order: begin 1, 2; add 4, 3; finish 4, 5; one-shot 1, 2, 3, 5"; of a log 6, 7 and 8, then 5; 0 stands for acceptance.
+unfoldable pub listed : Asked → List ℕ
+listed (begin m salt) = 0 ∷ 1 ∷ 2 ∷ []
+listed (add s xs) = 0 ∷ 4 ∷ 3 ∷ []
+listed (finish s out) = 0 ∷ 4 ∷ 5 ∷ []
+listed (oneShot m salt xs out) = 0 ∷ 1 ∷ 2 ∷ 3 ∷ 5 ∷ []
+listed (read log) = 0 ∷ 6 ∷ 7 ∷ 8 ∷ []
+listed (check log out) = 0 ∷ 6 ∷ 7 ∷ 8 ∷ 5 ∷ []
+listed (print log out) = 0 ∷ 5 ∷ []
+
+-- It hands back the state it was given; begin, which was given none, the all-zero state of the small family.
+unfoldable pub StateBack : Asked → Type 0
+StateBack (begin m salt) = beginOf m salt .state ≡ zeroState
+StateBack (add s xs) = addOf s xs .state ≡ s
+StateBack (finish s out) = finishOf s out .state ≡ s
+StateBack (oneShot m salt xs out) = Unit {0}
+StateBack (read log) = Unit {0}
+StateBack (check log out) = Unit {0}
+StateBack (print log out) = Unit {0}
+
+-- It writes to no lent buffer.
+unfoldable pub BufferKept : Asked → Type 0
+BufferKept (begin m salt) = Unit {0}
+BufferKept (add s xs) = Unit {0}
+BufferKept (finish s out) = finishBuffer s out ≡ out
+BufferKept (oneShot m salt xs out) = oneShotBuffer m salt xs out ≡ out
+BufferKept (read log) = Unit {0}
+BufferKept (check log out) = checkBuffer log out ≡ out
+BufferKept (print log out) = placed out 0 (printoutOf log) ≡ out
+
+-- It answers zero for every other value and count, and noclaim for the verdict.
+unfoldable pub ValuesZero : Asked → Type 0
+ValuesZero (begin m salt) = Unit {0}
+ValuesZero (add s xs) = Unit {0}
+ValuesZero (finish s out) = (reportCovered (finishOf s out .report) ≡ 0) × (reportBlocks (finishOf s out .report) ≡ 0)
+ValuesZero (oneShot m salt xs out) = (reportCovered (oneShotOf m salt xs out) ≡ 0) × (reportBlocks (oneShotOf m salt xs out) ≡ 0)
+ValuesZero (read log) = (readingRegisters (readingOf log) ≡ 0) × (readingEvents (readingOf log) ≡ 0)
+ValuesZero (check log out) =
+    (checkRegisters (checkOf log (length out)) ≡ 0) × (checkEvents (checkOf log (length out)) ≡ 0) × (checkBlocks (checkOf log (length out)) ≡ 0)
+    × (checkVerdict (checkOf log (length out)) ≡ NoClaim)
+ValuesZero (print log out) = printedLength (printOf log (length out)) ≡ 0

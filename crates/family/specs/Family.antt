@@ -1,0 +1,63 @@
+-- The two families' numbers (document 01, "Two families").
+use mathlib.Core.Bool.{cond}
+use Prim.Native.Nat.{ℕ}
+use lib.Dec.{leb}
+use Rattle.family.specs.declared.Family.{Family}
+use Rattle.family.specs.declared.Family.the-variants.{Small, Large}
+
+-- the table's head: up to 256 bits, and 264 to 512 bits
+abbrev pub digestBits : Family → ℕ
+digestBits Small = 256
+digestBits Large = 512
+
+-- the family of a digest length
+unfoldable pub familyOf : ℕ → Family
+familyOf m = cond (leb m (digestBits Small)) Small Large
+
+-- document 01's table, line by line
+abbrev pub blockBytes : Family → ℕ
+blockBytes Small = 64
+blockBytes Large = 128
+
+abbrev pub chainWords : Family → ℕ
+chainWords Small = 8
+chainWords Large = 16
+
+abbrev pub saltBytes : Family → ℕ
+saltBytes Small = 32
+saltBytes Large = 64
+
+abbrev pub rounds : Family → ℕ
+rounds Small = 12
+rounds Large = 14
+
+abbrev pub expandedWords : Family → ℕ
+expandedWords Small = 144
+expandedWords Large = 448
+
+abbrev pub lengthBytes : Family → ℕ
+lengthBytes Small = 8
+lengthBytes Large = 16
+
+-- the largest remainder padded in one block
+abbrev pub padLimit : Family → ℕ
+padLimit Small = 53
+padLimit Large = 109
+
+-- The expansion's numbers: the words of a block, which is also the far distance and the length of a run; the linear words' near distance;
+-- the salt's quads; the runs, nonlinear and linear in turn: "sixteen of each, four times", and "32 of each, six times, then a last nonlinear 32".
+abbrev pub blockWords : Family → ℕ
+blockWords Small = 16
+blockWords Large = 32
+
+abbrev pub nearDistance : Family → ℕ
+nearDistance Small = 3
+nearDistance Large = 7
+
+abbrev pub saltQuads : Family → ℕ
+saltQuads Small = 2
+saltQuads Large = 4
+
+abbrev pub runs : Family → ℕ
+runs Small = 8
+runs Large = 13

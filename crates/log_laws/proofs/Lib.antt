@@ -1,0 +1,4 @@
+pub mod Exact
+pub mod Labels
+pub mod Longest
+pub mod Registers

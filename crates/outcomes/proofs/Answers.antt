@@ -1,0 +1,42 @@
+-- Each method of an answer has only one outcome: its promise is the value that a definition gives for the answer.
+use mathlib.Core.Path.{_≡_}
+use Prim.Native.Nat.{ℕ}
+use Rattle.outcome.specs.Outcome.{OneOutcome}
+use Rattle.outcome.proofs.Outcome.{one}
+use Rattle.answers.specs.declared.refusal.Answer.{Answer}
+use Rattle.answers.specs.declared.refusal.Refusal.{Refusal}
+use Rattle.answers.specs.declared.report.Report.{Report}
+use Rattle.answers.specs.declared.reading.Reading.{Reading}
+use Rattle.answers.specs.declared.checked.Verdict.{Verdict}
+use Rattle.answers.specs.declared.checked.Checked.{Checked}
+use Rattle.answers.specs.declared.printed.Printed.{Printed}
+use Rattle.answers.specs.Refusal.{refusalNumber, answerNumber}
+use Rattle.answers.specs.Checked.{checkVerdict}
+
+-- `Refusal::number`
+pub refusal-one : (r : Refusal) → OneOutcome (λ (n : ℕ). n ≡ refusalNumber r)
+refusal-one r = one (refusalNumber r)
+
+-- `Answer::number`
+pub answer-one : (a : Answer) → OneOutcome (λ (n : ℕ). n ≡ answerNumber a)
+answer-one a = one (answerNumber a)
+
+-- `number`, `covered` and `blocks` of a report
+pub report-one : (value : Report → ℕ) (x : Report) → OneOutcome (λ (n : ℕ). n ≡ value x)
+report-one value x = one (value x)
+
+-- `number`, `registers` and `events` of a reading
+pub reading-one : (value : Reading → ℕ) (x : Reading) → OneOutcome (λ (n : ℕ). n ≡ value x)
+reading-one value x = one (value x)
+
+-- `number`, `registers`, `events` and `blocks` of a check
+pub checked-one : (value : Checked → ℕ) (x : Checked) → OneOutcome (λ (n : ℕ). n ≡ value x)
+checked-one value x = one (value x)
+
+-- `Checked::verdict`
+pub verdict-one : (x : Checked) → OneOutcome (λ (v : Verdict). v ≡ checkVerdict x)
+verdict-one x = one (checkVerdict x)
+
+-- `number` and `length` of what print answers
+pub printed-one : (value : Printed → ℕ) (x : Printed) → OneOutcome (λ (n : ℕ). n ≡ value x)
+printed-one value x = one (value x)

@@ -1,0 +1,35 @@
+-- Each public call of `state` and `digest` has only one outcome: its result, and for finish and one-shot the buffer too.
+use mathlib.Core.Path.{_≡_}
+use mathlib.Core.Bool.{Bool}
+use mathlib.Core.List.{List}
+use Prim.Native.Nat.{ℕ}
+use Rattle.outcome.specs.Outcome.{OneOutcome}
+use Rattle.outcome.proofs.Outcome.{one, one-pair}
+use Rattle.state.specs.declared.State.{State}
+use Rattle.digest.specs.declared.calls.Step.{Step}
+use Rattle.answers.specs.declared.report.Report.{Report}
+use Rattle.digest.specs.declared.calls.Finished.{Finished}
+use Rattle.state.specs.State.{allowed, consistentOf, zeroState}
+use Rattle.digest.specs.Calls.{beginOf, addOf, finishOf, finishBuffer, oneShotOf, oneShotBuffer}
+
+pub begin-one : (m : ℕ) (salt : List ℕ) → OneOutcome (λ (r : Step). r ≡ beginOf m salt)
+begin-one m salt = one (beginOf m salt)
+
+pub add-one : (s : State) (xs : List ℕ) → OneOutcome (λ (r : Step). r ≡ addOf s xs)
+add-one s xs = one (addOf s xs)
+
+pub finish-one : (s : State) (out : List ℕ) → OneOutcome (λ (o : Finished × List ℕ). (o .0 ≡ finishOf s out) × (o .1 ≡ finishBuffer s out))
+finish-one s out = one-pair (finishOf s out) (finishBuffer s out)
+
+pub one-shot-one : (m : ℕ) (salt xs out : List ℕ)
+    → OneOutcome (λ (o : Report × List ℕ). (o .0 ≡ oneShotOf m salt xs out) × (o .1 ≡ oneShotBuffer m salt xs out))
+one-shot-one m salt xs out = one-pair (oneShotOf m salt xs out) (oneShotBuffer m salt xs out)
+
+pub consistent-one : (s : State) → OneOutcome (λ (r : Bool). r ≡ consistentOf s)
+consistent-one s = one (consistentOf s)
+
+pub allowed-one : (m : ℕ) → OneOutcome (λ (r : Bool). r ≡ allowed m)
+allowed-one m = one (allowed m)
+
+pub zero-state-one : OneOutcome (λ (r : State). r ≡ zeroState)
+zero-state-one = one zeroState

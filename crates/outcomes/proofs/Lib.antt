@@ -1,0 +1,5 @@
+pub mod Answers
+pub mod Hash
+pub mod Digest
+pub mod Bootlog
+pub mod Text

@@ -1,0 +1,27 @@
+// The start-up calls: the master value, and the starting value of a digest length.
+ghost use mathlib.Core.Path.{_≡_};
+ghost use Rattle.startup.specs.Startup.{masterOf, startOf};
+use counter::Counter;
+use family::Family;
+
+pub fn master_value(family: Family) -> [u32; 16]
+    ensures { λ r. ⌜ r ≡ masterOf family ⌝ }
+{
+    compress::compress(family, [0u32; 16], [0u8; 128], Counter::of(0), [0u8; 64])
+}
+
+// The starting value for m bits.
+pub fn starting_value(family: Family, m: u16) -> [u32; 16]
+    ensures { λ r. ⌜ r ≡ startOf family m ⌝ }
+{
+    let mut block = [0u8; 128];
+    block[0] = (m % 256) as u8;
+    block[1] = (m / 256) as u8;
+    compress::compress(
+        family,
+        master_value(family),
+        block,
+        Counter::of(0),
+        [0u8; 64],
+    )
+}

@@ -1,0 +1,4 @@
+pub mod Filling
+pub mod Soundness
+pub mod Tests
+pub mod Zeros
