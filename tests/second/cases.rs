@@ -4,7 +4,7 @@ use crate::digest::State;
 use crate::hash::Family;
 use crate::lines::{hex, state_text};
 use crate::random::Random;
-use crate::{cases_log, cases_message, cases_state};
+use crate::{cases_log, cases_message, cases_saved, cases_state};
 
 pub const FAMILIES: [Family; 2] = [Family::Small, Family::Large];
 
@@ -60,6 +60,16 @@ impl Writer {
         self.line(&format!("check {} {}", hex(log), hex(&buffer)));
     }
 
+    /// A save into a lent buffer of random bytes.
+    pub fn save(&mut self, buffer_size: usize) {
+        let buffer = self.random.bytes(buffer_size);
+        self.line(&format!("save {}", hex(&buffer)));
+    }
+
+    pub fn load(&mut self, form: &[u8]) {
+        self.line(&format!("load {}", hex(form)));
+    }
+
     /// An allowed digest length of the family.
     pub fn m_of(&mut self, family: Family) -> u16 {
         let step = 8 * (1 + self.random.below(32) as u16);
@@ -85,6 +95,7 @@ pub fn text() -> String {
     cases_message::write(&mut w);
     cases_state::write(&mut w);
     cases_log::write(&mut w);
+    cases_saved::write(&mut w);
     unreadable(&mut w);
     w.text
 }

@@ -19,7 +19,7 @@ pub fn write(w: &mut Writer) {
 }
 
 /// A consistent state with random chain and held bytes.
-fn consistent(w: &mut Writer, family: Family, covered: u64) -> State {
+pub fn consistent(w: &mut Writer, family: Family, covered: u64) -> State {
     let block = family.block_bytes();
     let rest = (covered % block as u64) as usize;
     let mut state = State { family, m: w.m_of(family), covered, ..State::zero() };
@@ -39,7 +39,7 @@ fn consistent(w: &mut Writer, family: Family, covered: u64) -> State {
 }
 
 /// The state with each rule of consistency broken alone.
-fn spoils(state: &State) -> Vec<State> {
+pub fn spoils(state: &State) -> Vec<State> {
     let family = state.family;
     let block = family.block_bytes();
     let rest = (state.covered % block as u64) as usize;

@@ -3,6 +3,7 @@
 use crate::digest::{add, begin, finish, one_shot, State};
 use crate::hash::Family;
 use crate::log::check;
+use crate::saved::{load, save};
 
 /// Most bytes of a line, its end not counted.
 pub const LINE_MOST: usize = 131_072;
@@ -58,20 +59,8 @@ fn answer(line: &[u8], state: &mut State) -> Option<String> {
             *state = made;
             Some(format!("begin {number} {}", state_text(state)))
         }
-        ["state", family, m, salt, chain, covered, compressed, held] => {
-            let family = match number64(family)? {
-                0 => Family::Small,
-                1 => Family::Large,
-                _ => return None,
-            };
-            let chain_bytes: [u8; 64] = exact(chain)?;
-            let mut chain = [0; 16];
-            for (word, four) in chain.iter_mut().zip(chain_bytes.chunks(4)) {
-                *word = u32::from_be_bytes([four[0], four[1], four[2], four[3]]);
-            }
-            let (m, salt, held) = (number16(m)?, exact(salt)?, exact(held)?);
-            let (covered, compressed) = (number64(covered)?, number64(compressed)?);
-            *state = State { family, m, salt, chain, covered, compressed, held };
+        ["state", ref parts @ ..] => {
+            *state = state_of(parts)?;
             Some(format!("state {}", state_text(state)))
         }
         ["add", data] => {
@@ -98,8 +87,38 @@ fn answer(line: &[u8], state: &mut State) -> Option<String> {
             let counts = format!("{} {} {} {}", a.number, a.registers, a.events, a.blocks);
             Some(format!("check {counts} {} {}", a.verdict, hex(&buffer)))
         }
+        ["save", buffer] => {
+            let mut buffer = bytes(buffer)?;
+            let (number, size) = save(state, &mut buffer);
+            Some(format!("save {number} {size} {}", hex(&buffer)))
+        }
+        ["load", form] => {
+            let (number, made) = load(&bytes(form)?);
+            *state = made;
+            Some(format!("load {number} {}", state_text(state)))
+        }
         _ => None,
     }
+}
+
+/// The state that its seven words stand for.
+fn state_of(words: &[&str]) -> Option<State> {
+    let [family, m, salt, chain, covered, compressed, held] = *words else {
+        return None;
+    };
+    let family = match number64(family)? {
+        0 => Family::Small,
+        1 => Family::Large,
+        _ => return None,
+    };
+    let chain_bytes: [u8; 64] = exact(chain)?;
+    let mut chain = [0; 16];
+    for (word, four) in chain.iter_mut().zip(chain_bytes.chunks(4)) {
+        *word = u32::from_be_bytes([four[0], four[1], four[2], four[3]]);
+    }
+    let (m, salt, held) = (number16(m)?, exact(salt)?, exact(held)?);
+    let (covered, compressed) = (number64(covered)?, number64(compressed)?);
+    Some(State { family, m, salt, chain, covered, compressed, held })
 }
 
 /// Decimal digits only, at most 2^64 - 1.

@@ -1,8 +1,9 @@
-//! A second, independent program for the SHAvite-3 digest and the boot log check.
+//! A second, independent program for the SHAvite-3 digest, its saved states and the boot log check.
 
 mod cases;
 mod cases_log;
 mod cases_message;
+mod cases_saved;
 mod cases_state;
 mod digest;
 mod hash;
@@ -12,6 +13,7 @@ mod parts;
 mod printed;
 mod random;
 mod samples;
+mod saved;
 mod selftest;
 mod sum;
 

@@ -8,6 +8,7 @@ use crate::lines::hex;
 use crate::log::printed_check;
 use crate::printed::{salt_byte, Message, What, TABLE};
 use crate::samples::smallest;
+use crate::saved::{load, save};
 use crate::sum;
 
 /// Counters that document 01 lists (marked P there): family, bytes, counters.
@@ -44,6 +45,34 @@ const SUM_UNREADABLE: [&[&str]; 9] = [
     &["256", "-"],
     &["256", "0 00"],
     &["256", "", ""],
+];
+
+/// The form of a small state, written out: parameters, salt, chain, covered, held bytes.
+const SMALL_FORM: [&str; 5] = [
+    "0200 0000 0800",
+    "0800 000102030405060708090a0b0c0d0e0f101112131415161718191a1b1c1d1e1f",
+    "0800 202122232425262728292a2b2c2d2e2f303132333435363738393a3b3c3d3e3f",
+    "0100 8306050403020100",
+    "0300 c0c1c2",
+];
+
+/// Changes to that form that are refused: places and the bytes put there, bytes kept (zeros past
+/// its end), the number.
+const FORM_REFUSALS: [(&[(usize, u8)], usize, u8); 14] = [
+    (&[], 0, 9),
+    (&[], 88, 9),
+    (&[], 90, 9),
+    (&[(0, 3)], 89, 10),
+    (&[(2, 2)], 89, 10),
+    (&[(3, 1)], 6, 10),
+    (&[(2, 2)], 5, 9),
+    (&[(6, 7)], 8, 10),
+    (&[(41, 1)], 89, 10),
+    (&[(74, 2)], 97, 10),
+    (&[(84, 4)], 90, 10),
+    (&[(4, 8), (5, 1)], 89, 4),
+    (&[(83, 0x20)], 89, 4),
+    (&[(4, 0)], 90, 9),
 ];
 
 struct Tally {
@@ -86,6 +115,7 @@ pub fn run() -> (String, bool) {
     tally.value("million-A by the rule", million_a_by_rule(256, &[])[0] == MILLION_A_BY_RULE);
     tally.value("cuts against whole messages", cuts_agree());
     sum_values(&mut tally);
+    saved_values(&mut tally);
     let mut text: String =
         tally.missed.iter().map(|label| format!("selftest: not met: {label}\n")).collect();
     text += &format!("selftest: {} values met\n", tally.met);
@@ -210,4 +240,92 @@ fn sum_turns_agree() -> bool {
             })
         })
     })
+}
+
+/// The state whose form is `SMALL_FORM`.
+fn small_state() -> State {
+    let mut state = State { m: 8, covered: 0x0001_0203_0405_0683, ..State::zero() };
+    state.compressed = state.covered / 64;
+    for (index, byte) in state.salt[..32].iter_mut().enumerate() {
+        *byte = index as u8;
+    }
+    for (index, word) in state.chain[..8].iter_mut().enumerate() {
+        *word = 0x2322_2120 + 0x0404_0404 * index as u32;
+    }
+    state.held[..3].copy_from_slice(&[0xc0, 0xc1, 0xc2]);
+    state
+}
+
+/// The form, in hex, of an unsalted start whose chain is the printed one.
+fn start_form(m: u16, chain: &[u32]) -> String {
+    let family = if chain.len() == 8 { "0000" } else { "0100" };
+    let count = format!("{:02x}00", chain.len());
+    let salt = "0".repeat(8 * chain.len());
+    let words: String = chain.iter().map(|w| format!("{:08x}", w.swap_bytes())).collect();
+    let covered = "0".repeat(16);
+    let m = m.swap_bytes();
+    format!("0200{family}{m:04x}{count}{salt}{count}{words}0100{covered}0000")
+}
+
+/// Whether save writes this form, given in hex, and no byte past it, and load reads the same state.
+fn form_is(state: &State, form: &str) -> bool {
+    let mut buffer = [0xaa; 300];
+    let (number, size) = save(state, &mut buffer);
+    let (front, back) = buffer.split_at(size);
+    number == 0
+        && hex(front) == form
+        && back.iter().all(|&byte| byte == 0xaa)
+        && load(front) == (0, state.clone())
+}
+
+/// What load answers to the changed form of `FORM_REFUSALS`.
+fn load_changed(changes: &[(usize, u8)], size: usize) -> (u8, State) {
+    let mut form = [0; 97];
+    save(&small_state(), &mut form);
+    for &(place, byte) in changes {
+        form[place] = byte;
+    }
+    load(&form[..size])
+}
+
+/// Runs saved at every length 0 to 260, read back and gone on with, against one-shot.
+fn handed_over_agree(m: u16, salt_size: usize) -> bool {
+    let message: Vec<u8> = (0..400u32).map(|i| (i * 59 + 7) as u8).collect();
+    let salt = &message[200..200 + salt_size];
+    (0..=260).all(|size| {
+        let mut buffer = [0; 300];
+        let state = add(&begin(m, salt).1, &message[..size]).1;
+        let form_size = save(&state, &mut buffer).1;
+        let read = load(&buffer[..form_size]).1;
+        [0, 1, 60, 130].iter().all(|more| {
+            let (mut out, mut whole) = ([0; 64], [0; 64]);
+            let report = finish(&add(&read, &message[size..size + more]).1, &mut out);
+            let whole_report = one_shot(m, salt, &message[..size + more], &mut whole);
+            report.number == 0 && report == whole_report && out == whole
+        })
+    })
+}
+
+/// Saved forms: by hand, of the printed starts, the refusals of reader and writer, runs handed over.
+fn saved_values(tally: &mut Tally) {
+    tally.value("the form by hand", form_is(&small_state(), &SMALL_FORM.concat().replace(' ', "")));
+    for entry in &TABLE {
+        if let What::Start(m) = entry.what {
+            let form = start_form(m, &entry.numbers());
+            tally.value(&format!("form of {}", entry.label()), form_is(&begin(m, &[]).1, &form));
+        }
+    }
+    for (changes, size, number) in FORM_REFUSALS {
+        let label = format!("form with {changes:x?}, {size} bytes");
+        tally.value(&label, load_changed(changes, size) == (number, State::zero()));
+    }
+    let mut short = [0xaa; 88];
+    let right = save(&small_state(), &mut short) == (5, 0) && short == [0xaa; 88];
+    tally.value("form into a short buffer", right);
+    // Short for this one too: 4 comes first.
+    let right = save(&State::zero(), &mut short[..85]) == (4, 0) && short == [0xaa; 88];
+    tally.value("form of the all-zero state", right);
+    for (m, salt_size) in [(256, 0), (160, 32), (512, 0), (264, 64)] {
+        tally.value(&format!("handed over at {m} bits"), handed_over_agree(m, salt_size));
+    }
 }

@@ -2,4 +2,4 @@ pub mod Refusal
 pub mod Report
 pub mod Reading
 pub mod Checked
-pub mod Printed
+pub mod Written

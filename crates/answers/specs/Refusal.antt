@@ -1,13 +1,13 @@
--- The numbers given on refusal (document 01), and the values of each answer.
+-- The numbers given on refusal (documents 01 and 02), and the values of each answer.
 use mathlib.Core.Bool.{Bool, true, false}
 use mathlib.Core.List.{List, [], _∷_}
 use Prim.Native.Nat.{ℕ}
 use Rattle.answers.specs.declared.refusal.Refusal.{Refusal}
-use Rattle.answers.specs.declared.refusal.Refusal.the-variants.{DigestLength, SaltSize, MessageLimit, StateInconsistent, BufferShort, LogExtent, SectionCount, EventRegister}
+use Rattle.answers.specs.declared.refusal.Refusal.the-variants.{DigestLength, SaltSize, MessageLimit, StateInconsistent, BufferShort, LogExtent, SectionCount, EventRegister, FormExtent, FormCount}
 use Rattle.answers.specs.declared.refusal.Answer.{Answer}
 use Rattle.answers.specs.declared.refusal.Answer.the-variants.{Accepted, Refused}
 
--- document 01's table of refusals
+-- document 01's table of refusals; then document 02's, One: a saved form cut or with bytes left over, a count that doesn't fit or a family over 1
 abbrev pub refusalNumber : Refusal → ℕ
 refusalNumber DigestLength = 1
 refusalNumber SaltSize = 2
@@ -17,6 +17,8 @@ refusalNumber BufferShort = 5
 refusalNumber LogExtent = 6
 refusalNumber SectionCount = 7
 refusalNumber EventRegister = 8
+refusalNumber FormExtent = 9
+refusalNumber FormCount = 10
 
 -- 0 where the call is accepted
 abbrev pub answerNumber : Answer → ℕ
@@ -31,3 +33,8 @@ judged (t ∷ ts) = elim (t .0) [ true ↦ Refused (t .1) | false ↦ judged ts 
 abbrev pub ifAccepted : {A : Type 0} → Answer → A → A → A
 ifAccepted Accepted a b = a
 ifAccepted (Refused r) a b = b
+
+-- the first refusal of two answers
+abbrev pub firstOf : Answer → Answer → Answer
+firstOf Accepted next = next
+firstOf (Refused r) next = Refused r

@@ -11,6 +11,8 @@ pub enum Refusal {
     LogExtent,
     SectionCount,
     EventRegister,
+    FormExtent,
+    FormCount,
 }
 
 pub enum Answer {
@@ -19,7 +21,7 @@ pub enum Answer {
 }
 
 impl Refusal {
-    // The number in document 01's table.
+    // The number in document 01's table; 9 and 10 are document 02's.
     pub fn number(self) -> u8
         ensures { λ r. ⌜ r ≡ refusalNumber self ⌝ }
     {
@@ -32,6 +34,8 @@ impl Refusal {
             Refusal::LogExtent => 6,
             Refusal::SectionCount => 7,
             Refusal::EventRegister => 8,
+            Refusal::FormExtent => 9,
+            Refusal::FormCount => 10,
         }
     }
 }

@@ -16,7 +16,8 @@ use Rattle.startup.specs.Startup.{masterOf, startOf}
 use Rattle.answers.specs.declared.refusal.Answer.the-variants.{Accepted}
 use Rattle.family.specs.Family.{familyOf}
 use Rattle.state.specs.declared.State.{State}
-use Rattle.state.specs.Bytes.{le, bytesOf, fill, allZero}
+use Rattle.fields.specs.Fields.{le, bytesOf}
+use Rattle.state.specs.Bytes.{fill, allZero}
 use Rattle.digest.specs.Blocks.{wholeBlocks, lastBlock, lastBlocks, blocksOf, chainOver, digestOf}
 use Rattle.state.specs.State.{allowed, belongs, zeroPast, consistentOf}
 use Rattle.digest.specs.Running.{stateOf, heldOf, absorbed}

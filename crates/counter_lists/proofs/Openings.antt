@@ -10,10 +10,12 @@ use lib.Seq.{take-add, take-at, drop-at}
 use borrow.Author.Tests.{le-leb, lt-leb, eq-eqb, ne-eqb}
 use Rattle.family.specs.declared.Family.{Family}
 use Rattle.family.specs.Family.{blockBytes, lengthBytes, padLimit}
-use Rattle.state.specs.Bytes.{le, fill}
+use Rattle.fields.specs.Fields.{le}
+use Rattle.state.specs.Bytes.{fill}
 use Rattle.digest.specs.Blocks.{wholeBlocks, lastBlock, lastBlocks, blocksOf}
 use Rattle.state.specs.State.{limit, allowed}
-use Rattle.state.proofs.Filling.{fill-length, le-length}
+use Rattle.fields.proofs.Numbers.{le-length}
+use Rattle.state.proofs.Filling.{fill-length}
 use Rattle.digest.proofs.Blocking.{rest-small, rest-split}
 use Rattle.digest.proofs.Endings.{last-cases}
 use Rattle.digest.proofs.Answers.{m-max}

@@ -1,13 +1,13 @@
 -- The four calls' answers: where a test decides, and where none does.
-use mathlib.Core.Path.{_≡_, refl, ap, sym, _∙_}
+use mathlib.Core.Path.{_≡_, ap, _∙_}
 use mathlib.Core.Bool.{true, false, _&&_}
-use mathlib.Core.List.{List, [], _∷_, _++_}
-use Prim.Native.Nat.{ℕ, _+_, _*_, _/_, _%_, _≤_, _<_}
+use mathlib.Core.List.{List, [], _++_}
+use Prim.Native.Nat.{ℕ, _+_, _/_, _%_, _≤_, _<_}
 use native.Mathlib.Omega.{arith}
 use native.Mathlib.Nat.{zero-div, le-mul-of-pos-right}
 use lib.Dec.{eqb, leb, ltb}
-use lib.ListN.{length, take, drop, replicate, length-append}
-use lib.Seq.{take-take, length-take-le, drop-nil}
+use lib.ListN.{length, take, drop, replicate}
+use lib.Seq.{length-take-le, drop-nil}
 use borrow.Author.Tests.{leb-true, lt-ltb, le-ltb}
 use Rattle.family.specs.declared.Family.{Family}
 use Rattle.family.specs.declared.Family.the-variants.{Large}
@@ -24,14 +24,16 @@ use Rattle.answers.specs.declared.report.Report.{Report}
 use Rattle.answers.specs.declared.report.Report.the-variants as report
 use Rattle.digest.specs.declared.calls.Finished.{Finished}
 use Rattle.answers.specs.Refusal.{ifAccepted}
-use Rattle.state.specs.Bytes.{le, bytesOf, fill}
+use Rattle.fields.specs.Fields.{bytesOf}
+use Rattle.state.specs.Bytes.{fill}
 use Rattle.digest.specs.Blocks.{wholeBlocks, blocksOf, chainOver, digestOf}
 use Rattle.state.specs.State.{limit, allowed, consistentOf, zeroState}
 use Rattle.digest.specs.Running.{stateOf, heldOf, absorbed}
 use Rattle.digest.specs.Calls.{saltFits, beginAnswer, beginOf, addAnswer, addOf, closing, stateDigest, finishAnswer, finishOf, finishBuffer, oneShotAnswer, oneShotOf, oneShotBuffer}
 use Rattle.family.proofs.Sizes.{block-pos}
 use Rattle.answers.proofs.Tests.{and-left, and-right}
-use Rattle.state.proofs.Filling.{le-length, fill-nil}
+use Rattle.state.proofs.Filling.{fill-nil}
+use Rattle.fields.proofs.Numbers.{bytes-length}
 use Rattle.digest.proofs.Blocking.{chain-length}
 use Rattle.state.proofs.Soundness.{Sound, sound}
 use Rattle.digest.proofs.Cuts.{start-consistent, state-absorbed}
@@ -88,11 +90,6 @@ m-max m h =
     let most = digestBits Large in
     omega (arith, leb-true m most (and-right (ltb 0 m) (leb m most) (and-left (ltb 0 m && leb m most) (eqb (m % 8) 0) h)))
 
-pub bytes-length : (ws : List ℕ) → length (bytesOf ws) ≡ 4 * length ws
-unfolding bytesOf
-bytes-length [] = refl
-bytes-length (w ∷ ws) = omega (arith, length-append (le 4 w) (bytesOf ws), le-length 4 w, bytes-length ws)
-
 -- a digest has m/8 bytes
 pub digest-length : (f : Family) (m : ℕ) (salt xs : List ℕ) → m / 8 ≤ 64 → length (digestOf f m salt xs) ≡ m / 8
 unfolding digestOf
@@ -131,13 +128,13 @@ module _ (s : State) (out : List ℕ) where
     -- what close, spell and copy_out ensure
     pub finished : s .m / 8 ≤ length out → length (s .chain) ≡ 16 → (bytes : List ℕ) {chain after : List ℕ} {n : ℕ}
         → (chain ≡ chainOver (s .family) (s .salt) (closing s) (s .chain)) × (n ≡ length (closing s))
-        → take 64 bytes ≡ bytesOf chain → after ≡ take (s .m / 8) bytes ++ drop (s .m / 8) out
+        → bytes ≡ bytesOf chain → after ≡ take (s .m / 8) bytes ++ drop (s .m / 8) out
         → _≡_ {A = Finished} (record { report = report.Covers (s .covered) (s .compressed + n); state = s }) (finishOf s out) × (after ≡ finishBuffer s out)
     unfolding finishOf finishBuffer stateDigest
     finished h sixteen bytes c b a =
         let k = s .m / 8 in
         let whole = chainOver (s .family) (s .salt) (closing s) (s .chain) in
-        let t : take k bytes ≡ take k (bytesOf whole) = sym (take-take k 64 bytes (m-max (s .m) (sound s ok .allowed))) ∙ ap (take k) (b ∙ ap bytesOf (c .0)) in
+        let t : take k bytes ≡ take k (bytesOf whole) = ap (take k) (b ∙ ap bytesOf (c .0)) in
         let l : length (take k (bytesOf whole)) ≡ k =
         length-take-le k (bytesOf whole)
         (omega (arith, m-max (s .m) (sound s ok .allowed), bytes-length whole, chain-length (s .family) (s .salt) (closing s) (s .chain) sixteen)) in

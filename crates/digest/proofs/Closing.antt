@@ -15,15 +15,18 @@ use Rattle.counter.specs.Counter.{counterOf}
 use Rattle.compress.specs.Compression.{compressOf}
 use Rattle.compress.proofs.Compressed.{compress-block}
 use Rattle.state.specs.declared.State.{State}
-use Rattle.state.specs.Bytes.{le, fill}
+use Rattle.fields.specs.Fields.{le}
+use Rattle.state.specs.Bytes.{fill}
 use Rattle.digest.specs.Blocks.{lastBlock, lastBlocks, chainOver}
 use Rattle.digest.specs.Running.{heldOf}
 use Rattle.digest.specs.Calls.{closing}
 use Rattle.family.proofs.Sizes.{block-max, sizes}
-use Rattle.state.proofs.Filling.{le-length, fill-length, fill-put, fill-nil}
+use Rattle.fields.proofs.Numbers.{le-length}
+use Rattle.state.proofs.Filling.{fill-length, fill-put, fill-nil}
 use Rattle.state.proofs.Soundness.{Sound}
 use Rattle.digest.proofs.Held.{held-length, held-filled}
-use Rattle.digest.proofs.Stores.{sets-sets, sets-take}
+use Rattle.fields.proofs.Storing.{sets-sets}
+use Rattle.digest.proofs.Stores.{sets-take}
 
 -- with_length
 pub length-stored : (f : Family) (block : List ℕ) (n m : ℕ) {first r : List ℕ} {p k : ℕ} → p ≡ padLimit f → k ≡ lengthBytes f

@@ -5,14 +5,14 @@ use mathlib.Core.List.{List, [], _∷_, _++_, append-nil}
 use Prim.Native.Nat.{ℕ, suc, _+_, _%_, _≤_}
 use native.Mathlib.Omega.{arith}
 use native.Mathlib.Nat.{mod-lt}
-use lib.ListN.{length, drop, length-append}
+use lib.ListN.{length, drop, replicate, length-append}
 use lib.Seq.{sets, length-take-le, append-snoc}
 use Rattle.family.specs.Family.{blockBytes}
 use Rattle.state.specs.declared.State.{State}
 use Rattle.state.specs.Bytes.{fill, allZero}
 use Rattle.digest.specs.Running.{heldOf}
 use Rattle.family.proofs.Sizes.{block-pos, block-max}
-use Rattle.state.proofs.Filling.{fill-put, fill-zeros}
+use Rattle.state.proofs.Filling.{fill-nil, fill-put, fill-zeros}
 
 -- bytes behind xs
 pub fill-puts : (k : ℕ) (ys xs : List ℕ) → length xs + length ys ≤ k → sets (fill k xs) (length xs) ys ≡ fill k (xs ++ ys)
@@ -20,6 +20,10 @@ fill-puts k [] xs h = rw append-nil
 fill-puts k (y ∷ ys) xs h =
     let l : suc (length xs) ≡ length (xs ++ (y ∷ [])) = omega (arith, length-append xs (y ∷ [])) in
     rw (fill-put k xs y (omega arith), l, fill-puts k ys (xs ++ (y ∷ [])) (omega (arith, length-append xs (y ∷ []))), append-snoc)
+
+-- bytes put into zeros
+pub put-filled : (k : ℕ) (xs : List ℕ) → length xs ≤ k → {b : List ℕ} → b ≡ sets (replicate k 0) 0 xs → b ≡ fill k xs
+put-filled k xs h e = rw (e, ← fill-nil k) (fill-puts k xs [] (omega arith))
 
 module _ (s : State) (full : length (s .held) ≡ 128) where
   rest-max : s .covered .0 % blockBytes (s .family) ≤ 128

@@ -1,9 +1,8 @@
 -- Finishing the state of a message gives what one-shot gives for it.
-use mathlib.Core.Path.{_≡_, refl}
+use mathlib.Core.Path.{_≡_}
 use mathlib.Core.Bool.{Bool, true, false, not}
 use mathlib.Core.List.{List, [], _∷_}
 use Prim.Native.Nat.{ℕ, _≤_}
-use native.Mathlib.Omega.{arith}
 use lib.ListN.{length}
 use borrow.Author.Tests.{not-false, le-ltb}
 use Rattle.family.specs.Family.{familyOf}
@@ -11,6 +10,7 @@ use Rattle.answers.specs.declared.refusal.Refusal.{Refusal}
 use Rattle.answers.specs.declared.refusal.Refusal.the-variants.{DigestLength, SaltSize}
 use Rattle.answers.specs.declared.refusal.Answer.the-variants.{Accepted}
 use Rattle.answers.specs.Refusal.{judged}
+use Rattle.answers.proofs.Judged.{test-passed}
 use Rattle.state.specs.State.{limit, allowed, consistentOf}
 use Rattle.digest.specs.Running.{stateOf}
 use Rattle.digest.specs.Calls.{saltFits, beginAnswer, beginOf, finishAnswer, finishOf, finishBuffer, oneShotAnswer, oneShotOf, oneShotBuffer}
@@ -18,13 +18,9 @@ use Rattle.digest.proofs.Cuts.{state-consistent, state-digest, state-co
 
 -- What is known where a call of two tests is accepted.
 pub passed : (a t : Bool) (r r' : Refusal) → judged ((not a, r) ∷ (t, r') ∷ []) ≡ Accepted → (a ≡ true) × (t ≡ false)
-passed true false r r' h = (refl, refl)
-passed true true r r' h =
-    let z : _≡_ {A = ℕ} 0 1 = cc in
-    absurd (omega arith)
-passed false t r r' h =
-    let z : _≡_ {A = ℕ} 0 1 = cc in
-    absurd (omega arith)
+passed a t r r' h =
+    let p = test-passed (not a) r ((t, r') ∷ []) h in
+    (not-false a (p .0), test-passed t r' [] (p .1) .0)
 
 module _ (m : ℕ) (salt : List ℕ) (h : beginAnswer m salt ≡ Accepted) where
   pub begin-accepted : (allowed m ≡ true) × (saltFits (familyOf m) salt ≡ true)

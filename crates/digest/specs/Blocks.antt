@@ -9,7 +9,8 @@ use Rattle.family.specs.Family.{blockBytes, lengthBytes, padLimit}
 use Rattle.counter.specs.Counter.{counterOf}
 use Rattle.compress.specs.Compression.{compressOf}
 use Rattle.startup.specs.Startup.{startOf}
-use Rattle.state.specs.Bytes.{le, bytesOf, fill}
+use Rattle.fields.specs.Fields.{le, bytesOf}
+use Rattle.state.specs.Bytes.{fill}
 
 -- The first n blocks of b bytes of xs, where done bytes went before xs. The counter is bits so far including this block.
 unfoldable pub wholeBlocks : ℕ → ℕ → ℕ → List ℕ → List (ℕ × List ℕ)

@@ -14,7 +14,8 @@ use Rattle.answers.specs.declared.report.Report.{Report}
 use Rattle.digest.specs.declared.calls.Finished.{Finished}
 use Rattle.answers.specs.Refusal.{judged, ifAccepted}
 use Rattle.answers.specs.Report.{reported}
-use Rattle.state.specs.Bytes.{bytesOf, fill}
+use Rattle.fields.specs.Fields.{bytesOf}
+use Rattle.state.specs.Bytes.{fill}
 use Rattle.digest.specs.Blocks.{lastBlocks, blocksOf, chainOver, digestOf}
 use Rattle.state.specs.State.{limit, allowed, consistentOf, zeroState}
 use Rattle.digest.specs.Running.{stateOf, heldOf, absorbed}
@@ -44,9 +45,9 @@ closing s = lastBlocks (s .family) (s .m) (s .covered .0) (heldOf s)
 unfoldable pub stateDigest : State → List ℕ
 stateDigest s = take (s .m / 8) (bytesOf (chainOver (s .family) (s .salt) (closing s) (s .chain)))
 
--- the first bytes of a buffer replaced by a digest, and no others
+-- the first bytes of a buffer replaced by what a call made, and no others
 abbrev pub written : Answer → List ℕ → List ℕ → List ℕ
-written a digest out = ifAccepted a (digest ++ drop (length digest) out) out
+written a made out = ifAccepted a (made ++ drop (length made) out) out
 
 -- finish: 4, 5. It hands back the state that it was given.
 unfoldable pub finishAnswer : State → List ℕ → Answer

@@ -7,7 +7,7 @@ ghost use lib.Dec.{eqb, leb};
 ghost use lib.ListN.{length};
 ghost use lib.Seq.{sets};
 ghost use Rattle.family.specs.Family.{padLimit, lengthBytes};
-ghost use Rattle.state.specs.Bytes.{le};
+ghost use Rattle.fields.specs.Fields.{le};
 ghost use Rattle.digest.specs.Blocks.{chainOver};
 ghost use Rattle.state.specs.State.{limit, consistentOf};
 ghost use Rattle.digest.specs.Running.{stateOf, absorbed};

@@ -1,14 +1,14 @@
 -- Which numbers each call can answer.
 use mathlib.Core.Path.{_≡_, refl}
 use mathlib.Core.Bool.{Bool, true, false, not}
-use mathlib.Core.List.{List, [], _∷_, map, List·Memᴰ, List·Memᴰ·head, List·Memᴰ·tail}
+use mathlib.Core.List.{List, [], _∷_, _++_, map, List·Memᴰ, List·Memᴰ·head, List·Memᴰ·tail}
 use Prim.Native.Nat.{ℕ, zero, suc, _+_, _*_}
 use lib.Dec.{eqb, ltb}
 use lib.ListN.{length}
 use native.Mathlib.Omega.{arith}
 use native.Mathlib.Decide.{decLt}
 use Rattle.answers.specs.declared.refusal.Refusal.{Refusal}
-use Rattle.answers.specs.declared.refusal.Refusal.the-variants.{LogExtent, SectionCount}
+use Rattle.answers.specs.declared.refusal.Refusal.the-variants.{StateInconsistent, LogExtent, SectionCount}
 use Rattle.answers.specs.declared.refusal.Answer.{Answer}
 use Rattle.answers.specs.declared.refusal.Answer.the-variants as answer
 use Rattle.answers.specs.declared.reading.Layout.{Layout}
@@ -17,9 +17,14 @@ use Rattle.answers.specs.declared.reading.Reading.the-variants as reading
 use Rattle.answers.specs.Refusal.{refusalNumber, answerNumber, judged}
 use Rattle.answers.specs.Report.{reportNumber, reported}
 use Rattle.answers.specs.Reading.{readingNumber}
+use Rattle.answers.specs.Written.{writtenNumber, writtenIf}
+use Rattle.family.specs.Family.{chainWords, saltBytes}
+use Rattle.saved_form.specs.Form.{saltWords, saltPlace, chainPlace, coveredPlace, heldPlace}
+use Rattle.loading.specs.Reading.{familyIn, restIn, sectionTests, familyTests, endTests, formTests}
 use Rattle.layout.specs.declared.Place.{Place}
 use Rattle.layout.specs.declared.Place.the-variants as place
-use Rattle.layout.specs.Layout.{numberAt, endIf, sectionEnd, eventsEnd, andThen, reads, saltEnd, registersEnd, eventSectionEnd, claimsEnd, layoutAt, readingOf}
+use Rattle.fields.specs.Fields.{numberAt}
+use Rattle.layout.specs.Layout.{endIf, sectionEnd, eventsEnd, andThen, reads, saltEnd, registersEnd, eventSectionEnd, claimsEnd, layoutAt, readingOf}
 use Rattle.layout.proofs.Sections.{event-none, event-short, event-next, event-foreign}
 
 -- ---- a call's tests
@@ -36,6 +41,24 @@ pub judged-listed : (ts : List (Bool × Refusal)) → List·Memᴰ (answerNumber
 judged-listed [] = List·Memᴰ·head refl
 judged-listed ((true, r) ∷ ts) = List·Memᴰ·tail (List·Memᴰ·head refl)
 judged-listed ((false, r) ∷ ts) = skip (judged-listed ts)
+
+-- Tests whose numbers are all in a list decide between 0 and that list.
+pub data Among (l : List ℕ) : List (Bool × Refusal) → Type 0 where
+  none : Among l []
+  more : {t : Bool} {r : Refusal} {ts : List (Bool × Refusal)} → List·Memᴰ (refusalNumber r) l → Among l ts → Among l ((t, r) ∷ ts)
+
+pub judged-among : {l : List ℕ} {ts : List (Bool × Refusal)} → Among l ts → List·Memᴰ (answerNumber (judged ts)) (0 ∷ l)
+judged-among none = List·Memᴰ·head refl
+judged-among (more {t = true} h a) = List·Memᴰ·tail h
+judged-among (more {t = false} h a) = judged-among a
+
+pub both-among : {l : List ℕ} {ts us : List (Bool × Refusal)} → Among l ts → Among l us → Among l (ts ++ us)
+both-among none b = b
+both-among (more h a) b = more h (both-among a b)
+
+pub written-number : (a : Answer) (n : ℕ) → writtenNumber (writtenIf a n) ≡ answerNumber a
+written-number answer.Accepted n = refl
+written-number (answer.Refused r) n = refl
 
 pub reported-number : (a : Answer) (n k : ℕ) → reportNumber (reported a n k) ≡ answerNumber a
 reported-number answer.Accepted n k = refl
@@ -121,3 +144,31 @@ module _ (log : List ℕ) where
 pub reading-listed : {x : Reading} → Read x → List·Memᴰ (readingNumber x) (0 ∷ logNumbers)
 reading-listed whole = List·Memᴰ·head refl
 reading-listed (refused h) = List·Memᴰ·tail h
+
+-- ---- a saved form's reading
+-- 9, 10 and 4
+abbrev formNumbers : List ℕ
+formNumbers = 9 ∷ 10 ∷ 4 ∷ []
+
+nine : List·Memᴰ 9 formNumbers
+nine = List·Memᴰ·head refl
+
+ten : List·Memᴰ 10 formNumbers
+ten = List·Memᴰ·tail (List·Memᴰ·head refl)
+
+section-among : (form : List ℕ) (i count size : ℕ) → Among formNumbers (sectionTests form i count size)
+unfolding sectionTests
+section-among form i count size = more nine (more ten (more nine none))
+
+pub form-among : (form : List ℕ) (t : Bool) → Among formNumbers (formTests form ++ ((t, StateInconsistent) ∷ []))
+unfolding formTests familyTests endTests
+form-among form t =
+    let f = familyIn form in
+    both-among
+    (both-among (section-among form 0 2 4)
+    (both-among (more ten none)
+    (both-among (section-among form saltPlace (saltWords f) (saltBytes f))
+    (both-among (section-among form (chainPlace f) (chainWords f) (4 * chainWords f))
+    (both-among (section-among form (coveredPlace f) 1 8)
+    (both-among (section-among form (heldPlace f) (restIn form) (restIn form)) (more nine none)))))))
+    (more (List·Memᴰ·tail (List·Memᴰ·tail (List·Memᴰ·head refl))) none)

@@ -17,22 +17,26 @@ use Rattle.answers.specs.declared.checked.Verdict.{Verdict}
 use Rattle.answers.specs.declared.checked.Verdict.the-variants.{NoClaim}
 use Rattle.answers.specs.declared.checked.Checked.{Checked}
 use Rattle.answers.specs.declared.checked.Checked.the-variants as checked
-use Rattle.answers.specs.declared.printed.Printed.the-variants as printed
+use Rattle.answers.specs.declared.written.Written.the-variants as written
 use Rattle.answers.specs.Refusal.{refusalNumber, answerNumber, ifAccepted}
 use Rattle.answers.specs.Report.{reportNumber, reportCovered, reportBlocks, reported}
 use Rattle.answers.specs.Reading.{readingNumber, readingRegisters, readingEvents}
 use Rattle.answers.specs.Checked.{checkNumber, checkRegisters, checkEvents, checkBlocks, checkVerdict}
-use Rattle.answers.specs.Printed.{printedNumber, printedLength}
+use Rattle.answers.specs.Written.{writtenNumber, writtenLength, writtenIf}
 use Rattle.family.specs.Family.{familyOf}
 use Rattle.state.specs.State.{limit, allowed, consistentOf}
 use Rattle.digest.specs.Calls.{saltFits, beginAnswer, beginOf, addAnswer, addOf, finishAnswer, finishOf, finishBuffer, oneShotAnswer, oneShotOf, oneShotBuffer}
+use Rattle.saved_form.specs.Form.{formOf}
+use Rattle.loading.specs.Reading.{stateIn}
+use Rattle.saving.specs.Calls.{saveAnswer, saveOf, saveBuffer}
+use Rattle.loading.specs.Calls.{loadAnswer, loadOf}
 use Rattle.layout.specs.Layout.{readingOf}
 use Rattle.bootlog.specs.Check.{checkedAt, checkOf, checkBuffer}
 use Rattle.bootlog.proofs.Verdicts.{check-answer, check-buffer, refused-answer, refused-buffer}
 use Rattle.text.specs.Place.{placed}
 use Rattle.printout.specs.Printout.{printoutOf, printOf}
-use Rattle.duties.specs.Asked.{Asked, begin, add, finish, oneShot, read, check, print, answered, listed, StateBack, BufferKept, ValuesZero}
-use Rattle.duties.proofs.Numbers.{logNumbers, Read, whole, refused, judged-listed, reported-number, reading-read, reading-listed}
+use Rattle.duties.specs.Asked.{Asked, begin, add, finish, oneShot, save, load, read, check, print, answered, listed, StateBack, BufferKept, ValuesZero}
+use Rattle.duties.proofs.Numbers.{logNumbers, Read, whole, refused, judged-listed, judged-among, form-among, written-number, reported-number, reading-read, reading-listed}
 
 -- A check is refused by the log's reading, or for its buffer, or accepted.
 module _ (P : Checked → List ℕ → Type 0) (log out : List ℕ)
@@ -60,13 +64,17 @@ not-reported : (a : Answer) (n k : ℕ) → (reportNumber (reported a n k) ≡ 0
 not-reported answer.Accepted n k h = absurd (h refl)
 not-reported (answer.Refused r) n k h = (refl, refl)
 
+not-written : (a : Answer) (n : ℕ) → (writtenNumber (writtenIf a n) ≡ 0 → ⊥) → writtenLength (writtenIf a n) ≡ 0
+not-written answer.Accepted n h = absurd (h refl)
+not-written (answer.Refused r) n h = refl
+
 -- what a check's refusal leaves
 abbrev Left : List ℕ → Checked → List ℕ → Type 0
 Left out c b = (checkNumber c ≡ 0 → ⊥) → (b ≡ out) × ((checkRegisters c ≡ 0) × (checkEvents c ≡ 0) × (checkBlocks c ≡ 0) × (checkVerdict c ≡ NoClaim))
 
 -- Every call ends with a listed result on every input, spoiled states and cut logs included.
 pub every-call-listed : (c : Asked) → List·Memᴰ (answered c) (listed c)
-unfolding answered listed beginOf beginAnswer addOf addAnswer finishOf finishAnswer oneShotOf oneShotAnswer printOf
+unfolding answered listed beginOf beginAnswer addOf addAnswer finishOf finishAnswer oneShotOf oneShotAnswer saveOf saveAnswer loadOf loadAnswer printOf
 every-call-listed (begin m salt) = judged-listed ((not (allowed m), DigestLength) ∷ (not (saltFits (familyOf m) salt), SaltSize) ∷ [])
 every-call-listed (add s xs) = judged-listed ((not (consistentOf s), StateInconsistent) ∷ (ltb limit (s .covered .0 + length xs), MessageLimit) ∷ [])
 every-call-listed (finish s out) =
@@ -77,6 +85,10 @@ every-call-listed (oneShot m salt xs out) =
     (not (allowed m), DigestLength) ∷ (not (saltFits (familyOf m) salt), SaltSize) ∷ (ltb limit (length xs), MessageLimit)
     ∷ (ltb (length out) (m / 8), BufferShort) ∷ []
     ))
+every-call-listed (save s out) =
+    rw (written-number (saveAnswer s out) (length (formOf s)))
+    (judged-listed ((not (consistentOf s), StateInconsistent) ∷ (ltb (length out) (length (formOf s)), BufferShort) ∷ []))
+every-call-listed (load form) = judged-among (form-among form (not (consistentOf (stateIn form))))
 every-call-listed (read log) = reading-listed (reading-read log)
 every-call-listed (check log out) =
     check-cases (λ (c : Checked) (b : List ℕ). List·Memᴰ (checkNumber c) (0 ∷ 6 ∷ 7 ∷ 8 ∷ 5 ∷ [])) log out
@@ -85,19 +97,22 @@ every-call-listed (check log out) =
     (λ r n b v after. List·Memᴰ·head refl)
 every-call-listed (print log out) = by (ltb (length out) (length (printoutOf log)))
   where
-    by : (t : Bool) → List·Memᴰ (printedNumber (cond t (printed.Refused BufferShort) (printed.Text (length (printoutOf log))))) (0 ∷ 5 ∷ [])
+    by : (t : Bool) → List·Memᴰ (writtenNumber (cond t (written.Refused BufferShort) (written.Bytes (length (printoutOf log))))) (0 ∷ 5 ∷ [])
     by true = List·Memᴰ·tail (List·Memᴰ·head refl)
     by false = List·Memᴰ·head refl
 
 -- A refusal hands back the state it was given, writes to no lent buffer and answers zero for every other value and count.
 pub refusal-leaves : (c : Asked) → (answered c ≡ 0 → ⊥) → StateBack c × BufferKept c × ValuesZero c
-unfolding answered StateBack BufferKept ValuesZero beginOf addOf finishOf finishBuffer oneShotOf oneShotBuffer printOf placed
+unfolding answered StateBack BufferKept ValuesZero beginOf addOf finishOf finishBuffer oneShotOf oneShotBuffer saveOf saveBuffer loadOf printOf placed
 refusal-leaves (begin m salt) h = (not-accepted (beginAnswer m salt) _ _ h, tt, tt)
 refusal-leaves (add s xs) h = (not-accepted (addAnswer s xs) _ _ h, tt, tt)
 refusal-leaves (finish s out) h =
     (refl, not-accepted (finishAnswer s out) _ _ (λ e. h (reported-number (finishAnswer s out) _ _ ∙ e)), not-reported (finishAnswer s out) _ _ h)
 refusal-leaves (oneShot m salt xs out) h =
     (tt, not-accepted (oneShotAnswer m salt xs out) _ _ (λ e. h (reported-number (oneShotAnswer m salt xs out) _ _ ∙ e)), not-reported (oneShotAnswer m salt xs out) _ _ h)
+refusal-leaves (save s out) h =
+    (refl, not-accepted (saveAnswer s out) _ _ (λ e. h (written-number (saveAnswer s out) _ ∙ e)), not-written (saveAnswer s out) _ h)
+refusal-leaves (load form) h = (not-accepted (loadAnswer form) _ _ h, tt, tt)
 refusal-leaves (read log) h = (tt, tt, by (readingOf log) h)
   where
     by : (x : Reading) → (readingNumber x ≡ 0 → ⊥) → (readingRegisters x ≡ 0) × (readingEvents x ≡ 0)
@@ -108,7 +123,7 @@ refusal-leaves (check log out) h =
     (tt, z .0, z .1)
 refusal-leaves (print log out) h = let z = by (ltb (length out) (length (printoutOf log))) refl h in (tt, z .0, z .1)
   where
-    by : (t : Bool) → ltb (length out) (length (printoutOf log)) ≡ t → (printedNumber (cond t (printed.Refused BufferShort) (printed.Text (length (printoutOf log)))) ≡ 0 → ⊥)
-        → (placed out 0 (printoutOf log) ≡ out) × (printedLength (cond t (printed.Refused BufferShort) (printed.Text (length (printoutOf log)))) ≡ 0)
+    by : (t : Bool) → ltb (length out) (length (printoutOf log)) ≡ t → (writtenNumber (cond t (written.Refused BufferShort) (written.Bytes (length (printoutOf log)))) ≡ 0 → ⊥)
+        → (placed out 0 (printoutOf log) ≡ out) × (writtenLength (cond t (written.Refused BufferShort) (written.Bytes (length (printoutOf log)))) ≡ 0)
     by false e h = absurd (h refl)
     by true e h = (rw (lt-leb (0 + length (printoutOf log)) (length out) (omega (arith, ltb-true (length out) (length (printoutOf log)) e))), refl)

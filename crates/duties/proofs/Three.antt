@@ -14,32 +14,33 @@ use Rattle.state.specs.State.{limit, allowed}
 use Rattle.digest.specs.Running.{stateOf}
 use Rattle.digest.specs.Calls.{beginAnswer, beginOf, finishOf, finishBuffer, oneShotOf, oneShotBuffer}
 use Rattle.digest.proofs.Shot.{begin-accepted}
-use Rattle.sequences.specs.Sequences.{Call, after, joined}
-use Rattle.sequences.proofs.Joined.{calls-joined, joined-length, calls-finish}
+use Rattle.carried.specs.Moves.{Move, afterMoves, joinedBy}
+use Rattle.carried.proofs.Carries.{moves-joined, moves-length, moves-finish}
 use Rattle.counter_lists.specs.Lists.{handed, distinct, Opens}
 use Rattle.counter_lists.proofs.Counters.{counters-distinct}
 use Rattle.counter_lists.proofs.Openings.{lists-apart}
 use Rattle.duties.proofs.Two.{digest-right, counts-right}
 
--- From an accepted start, after any calls (adds in any cuts, empty and refused ones too, and finishes).
-module _ (m : ℕ) (salt : List ℕ) (start : beginAnswer m salt ≡ Accepted) (calls : List Call) where
+-- From an accepted start, after any moves: adds in any cuts, empty and refused ones too, finishes, saves, and carries (a form saved, and what is read
+-- back gone on with).
+module _ (m : ℕ) (salt : List ℕ) (start : beginAnswer m salt ≡ Accepted) (moves : List Move) where
   abbrev s : State
-  s = after (beginOf m salt .state) calls
+  s = afterMoves (beginOf m salt .state) moves
 
   -- the accepted bytes, joined
   abbrev xs : List ℕ
-  xs = joined (beginOf m salt .state) calls
+  xs = joinedBy (beginOf m salt .state) moves
 
   -- The state depends only on salt, digest length and the accepted bytes joined.
   pub state-depends : s ≡ stateOf m salt xs
-  state-depends = calls-joined m salt calls start
+  state-depends = moves-joined m salt start moves
 
   module _ (out : List ℕ) (room : m / 8 ≤ length out) where
     one-shot : (finishOf s out .report ≡ oneShotOf m salt xs out) × (finishBuffer s out ≡ oneShotBuffer m salt xs out)
-    one-shot = calls-finish m salt calls start out
+    one-shot = moves-finish m salt start moves out
 
     right : (reportNumber (oneShotOf m salt xs out) ≡ 0) × (oneShotBuffer m salt xs out ≡ digestOf (familyOf m) m (fill 64 salt) xs ++ drop (m / 8) out)
-    right = digest-right m salt xs out (begin-accepted m salt start .0) (begin-accepted m salt start .1) (joined-length m salt calls start) room
+    right = digest-right m salt xs out (begin-accepted m salt start .0) (begin-accepted m salt start .1) (moves-length m salt start moves) room
 
     -- Its digest is demand 2's for them.
     pub digest-joined : (reportNumber (finishOf s out .report) ≡ 0) × (finishBuffer s out ≡ digestOf (familyOf m) m (fill 64 salt) xs ++ drop (m / 8) out)
@@ -50,12 +51,12 @@ module _ (m : ℕ) (salt : List ℕ) (start : beginAnswer m salt ≡ Accepted) (
     unfolding handed
     coverage-reported =
         let ok = begin-accepted m salt start in
-        let c = counts-right m salt xs out (ok .0) (ok .1) (joined-length m salt calls start) room in
+        let c = counts-right m salt xs out (ok .0) (ok .1) (moves-length m salt start moves) room in
         (rw (one-shot .0) (c .0), rw (one-shot .0, length-map) (c .1))
 
   -- Within one digest no two of those compressions use the same counter: the words that each is handed differ.
   pub counters-never-repeat : distinct (map (λ x. x .0) (handed (familyOf m) m xs))
-  counters-never-repeat = counters-distinct (familyOf m) m xs (joined-length m salt calls start)
+  counters-never-repeat = counters-distinct (familyOf m) m xs (moves-length m salt start moves)
 
 -- Two digests of the same compression function that differ in message or digest length have different lists of (counter, block), and neither list is the
 -- opening of the other. The salt is in no list.

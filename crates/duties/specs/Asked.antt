@@ -1,4 +1,4 @@
--- Every call of the digest and of the boot log with what it is given: what it answers, and what a refusal leaves (the letter's first duty).
+-- Every call of the digest, of its saved forms and of the boot log with what it is given: what it answers, and what a refusal leaves (the letter's first duty).
 use mathlib.Core.Path.{_≡_}
 use mathlib.Core.List.{List, [], _∷_}
 use Prim.Native.Nat.{ℕ}
@@ -8,21 +8,26 @@ use Rattle.answers.specs.Refusal.{answerNumber}
 use Rattle.answers.specs.Report.{reportNumber, reportCovered, reportBlocks}
 use Rattle.answers.specs.Reading.{readingNumber, readingRegisters, readingEvents}
 use Rattle.answers.specs.Checked.{checkNumber, checkRegisters, checkEvents, checkBlocks, checkVerdict}
-use Rattle.answers.specs.Printed.{printedNumber, printedLength}
+use Rattle.answers.specs.Written.{writtenNumber, writtenLength}
 use Rattle.state.specs.declared.State.{State}
 use Rattle.state.specs.State.{zeroState}
 use Rattle.digest.specs.Calls.{beginOf, addOf, finishOf, finishBuffer, oneShotOf, oneShotBuffer}
+use Rattle.saving.specs.Calls.{saveOf, saveBuffer}
+use Rattle.loading.specs.Calls.{loadOf}
 use Rattle.layout.specs.Layout.{readingOf}
 use Rattle.bootlog.specs.Check.{checkOf, checkBuffer}
 use Rattle.text.specs.Place.{placed}
 use Rattle.printout.specs.Printout.{printoutOf, printOf}
 
--- A call: digest length and salt; state and bytes; state and buffer; digest length, salt, message and buffer; log; log and buffer.
+-- A call: digest length and salt; state and bytes; state and buffer; digest length, salt, message and buffer; state and buffer; saved form; log; log and
+-- buffer.
 pub data Asked : Type 0 where
   begin : ℕ → List ℕ → Asked
   add : State → List ℕ → Asked
   finish : State → List ℕ → Asked
   oneShot : ℕ → List ℕ → List ℕ → List ℕ → Asked
+  save : State → List ℕ → Asked
+  load : List ℕ → Asked
   read : List ℕ → Asked
   check : List ℕ → List ℕ → Asked
   print : List ℕ → List ℕ → Asked
@@ -33,26 +38,33 @@ answered (begin m salt) = answerNumber (beginOf m salt .answer)
 answered (add s xs) = answerNumber (addOf s xs .answer)
 answered (finish s out) = reportNumber (finishOf s out .report)
 answered (oneShot m salt xs out) = reportNumber (oneShotOf m salt xs out)
+answered (save s out) = writtenNumber (saveOf s out .written)
+answered (load form) = answerNumber (loadOf form .answer)
 answered (read log) = readingNumber (readingOf log)
 answered (check log out) = checkNumber (checkOf log (length out))
-answered (print log out) = printedNumber (printOf log (length out))
+answered (print log out) = writtenNumber (printOf log (length out))
 
--- Document 01, "Order: begin 1, 2; add 4, 3; finish 4, 5; one-shot 1, 2, 3, 5"; of a log 6, 7 and 8, then 5; 0 stands for acceptance.
+-- Document 01, "Order: begin 1, 2; add 4, 3; finish 4, 5; one-shot 1, 2, 3, 5"; of a log 6, 7 and 8, then 5. Document 02, One:
+-- reader 9, 10, then 4; writer 4, 5. 0 stands for acceptance.
 unfoldable pub listed : Asked → List ℕ
 listed (begin m salt) = 0 ∷ 1 ∷ 2 ∷ []
 listed (add s xs) = 0 ∷ 4 ∷ 3 ∷ []
 listed (finish s out) = 0 ∷ 4 ∷ 5 ∷ []
 listed (oneShot m salt xs out) = 0 ∷ 1 ∷ 2 ∷ 3 ∷ 5 ∷ []
+listed (save s out) = 0 ∷ 4 ∷ 5 ∷ []
+listed (load form) = 0 ∷ 9 ∷ 10 ∷ 4 ∷ []
 listed (read log) = 0 ∷ 6 ∷ 7 ∷ 8 ∷ []
 listed (check log out) = 0 ∷ 6 ∷ 7 ∷ 8 ∷ 5 ∷ []
 listed (print log out) = 0 ∷ 5 ∷ []
 
--- It hands back the state it was given; begin, which was given none, the all-zero state of the small family.
+-- It hands back the state it was given; begin and load, which were given none, the all-zero state of the small family.
 unfoldable pub StateBack : Asked → Type 0
 StateBack (begin m salt) = beginOf m salt .state ≡ zeroState
 StateBack (add s xs) = addOf s xs .state ≡ s
 StateBack (finish s out) = finishOf s out .state ≡ s
 StateBack (oneShot m salt xs out) = Unit {0}
+StateBack (save s out) = saveOf s out .state ≡ s
+StateBack (load form) = loadOf form .state ≡ zeroState
 StateBack (read log) = Unit {0}
 StateBack (check log out) = Unit {0}
 StateBack (print log out) = Unit {0}
@@ -63,6 +75,8 @@ BufferKept (begin m salt) = Unit {0}
 BufferKept (add s xs) = Unit {0}
 BufferKept (finish s out) = finishBuffer s out ≡ out
 BufferKept (oneShot m salt xs out) = oneShotBuffer m salt xs out ≡ out
+BufferKept (save s out) = saveBuffer s out ≡ out
+BufferKept (load form) = Unit {0}
 BufferKept (read log) = Unit {0}
 BufferKept (check log out) = checkBuffer log out ≡ out
 BufferKept (print log out) = placed out 0 (printoutOf log) ≡ out
@@ -73,8 +87,10 @@ ValuesZero (begin m salt) = Unit {0}
 ValuesZero (add s xs) = Unit {0}
 ValuesZero (finish s out) = (reportCovered (finishOf s out .report) ≡ 0) × (reportBlocks (finishOf s out .report) ≡ 0)
 ValuesZero (oneShot m salt xs out) = (reportCovered (oneShotOf m salt xs out) ≡ 0) × (reportBlocks (oneShotOf m salt xs out) ≡ 0)
+ValuesZero (save s out) = writtenLength (saveOf s out .written) ≡ 0
+ValuesZero (load form) = Unit {0}
 ValuesZero (read log) = (readingRegisters (readingOf log) ≡ 0) × (readingEvents (readingOf log) ≡ 0)
 ValuesZero (check log out) =
     (checkRegisters (checkOf log (length out)) ≡ 0) × (checkEvents (checkOf log (length out)) ≡ 0) × (checkBlocks (checkOf log (length out)) ≡ 0)
     × (checkVerdict (checkOf log (length out)) ≡ NoClaim)
-ValuesZero (print log out) = printedLength (printOf log (length out)) ≡ 0
+ValuesZero (print log out) = writtenLength (printOf log (length out)) ≡ 0

@@ -14,6 +14,11 @@ digestBits Large = 512
 unfoldable pub familyOf : ℕ → Family
 familyOf m = cond (leb m (digestBits Small)) Small Large
 
+-- "family 0 or 1" (document 02, One)
+abbrev pub familyNumber : Family → ℕ
+familyNumber Small = 0
+familyNumber Large = 1
+
 -- document 01's table, line by line
 abbrev pub blockBytes : Family → ℕ
 blockBytes Small = 64

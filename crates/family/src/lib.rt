@@ -1,6 +1,6 @@
 // The two families, and their numbers: document 01's table, named here and nowhere else.
 ghost use mathlib.Core.Path.{_≡_};
-ghost use Rattle.family.specs.Family.{familyOf, blockBytes, chainWords, saltBytes, lengthBytes, padLimit, blockWords, nearDistance, saltQuads, runs};
+ghost use Rattle.family.specs.Family.{familyOf, familyNumber, blockBytes, chainWords, saltBytes, lengthBytes, padLimit, blockWords, nearDistance, saltQuads, runs};
 
 pub enum Family {
     Small,
@@ -74,6 +74,16 @@ impl Family {
             Family::Small
         } else {
             Family::Large
+        }
+    }
+
+    // The number that stands for the family in a saved form.
+    pub fn number(self) -> usize
+        ensures { λ r. ⌜ r ≡ familyNumber self ⌝ }
+    {
+        match self {
+            Family::Small => 0,
+            Family::Large => 1,
         }
     }
 

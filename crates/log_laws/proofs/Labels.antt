@@ -12,7 +12,8 @@ use Rattle.layout.specs.declared.Place.the-variants.{At, Refused}
 use Rattle.answers.specs.declared.reading.Layout.{Layout}
 use Rattle.answers.specs.declared.reading.Reading.{Reading}
 use Rattle.answers.specs.declared.reading.Reading.the-variants as reading
-use Rattle.layout.specs.Layout.{numberAt, andThen, reads, sectionEnd, saltEnd, registersEnd, eventsEnd, eventSectionEnd, claimsEnd, readingOf}
+use Rattle.fields.specs.Fields.{numberIn, numberAt}
+use Rattle.layout.specs.Layout.{andThen, reads, sectionEnd, saltEnd, registersEnd, eventsEnd, eventSectionEnd, claimsEnd, readingOf}
 use Rattle.layout.specs.Layout.{saltOf, startsOf, eventsOf, claimsOf}
 use Rattle.bootlog.specs.Replay.{eventList, replayed}
 use Rattle.bootlog.specs.Check.{endsOf, verdictOf, checkedAt, checkOf, checkBuffer}
@@ -56,7 +57,7 @@ module _ (log log′ : List ℕ) (d : LabelsOnly log log′) where
       ⊎-elim (λ e. h (omega arith) (omega arith)) (λ e. h (omega arith) (omega arith)) (l .byte))
 
   number-same : (i : ℕ) → Clear log i 2 → numberAt log i ≡ numberAt log′ i
-  unfolding numberAt
+  unfolding numberIn
   number-same i c = rw (byte-same i 2 c i (omega arith) (omega arith), byte-same i 2 c (i + 1) (omega arith) (omega arith))
 
   part-same : (i n : ℕ) → Clear log i n → take n (drop i log) ≡ take n (drop i log′)

@@ -4,7 +4,7 @@ use mathlib.Core.List.{List}
 use mathlib.Core.Logic.{_⊎_}
 use Prim.Native.Nat.{ℕ, _+_, _*_, _<_}
 use lib.ListN.{length, getD}
-use Rattle.layout.specs.Layout.{numberAt}
+use Rattle.fields.specs.Fields.{numberAt}
 
 -- where the third count of a log stands, by its first two counts
 unfoldable pub thirdAt : List ℕ → ℕ

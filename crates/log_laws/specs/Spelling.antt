@@ -1,7 +1,7 @@
 -- A log as its counts and sections spell it.
 use mathlib.Core.List.{List, _++_}
 use Prim.Native.Nat.{ℕ}
-use Rattle.state.specs.Bytes.{le}
+use Rattle.fields.specs.Fields.{le}
 
 -- a log of four sections, each behind its count
 unfoldable pub spelled : ℕ → List ℕ → ℕ → List ℕ → ℕ → List ℕ → ℕ → List ℕ → List ℕ

@@ -9,7 +9,7 @@ use Rattle.answers.specs.declared.report.Report.{Report}
 use Rattle.answers.specs.declared.reading.Reading.{Reading}
 use Rattle.answers.specs.declared.checked.Verdict.{Verdict}
 use Rattle.answers.specs.declared.checked.Checked.{Checked}
-use Rattle.answers.specs.declared.printed.Printed.{Printed}
+use Rattle.answers.specs.declared.written.Written.{Written}
 use Rattle.answers.specs.Refusal.{refusalNumber, answerNumber}
 use Rattle.answers.specs.Checked.{checkVerdict}
 
@@ -37,6 +37,6 @@ checked-one value x = one (value x)
 pub verdict-one : (x : Checked) → OneOutcome (λ (v : Verdict). v ≡ checkVerdict x)
 verdict-one x = one (checkVerdict x)
 
--- `number` and `length` of what print answers
-pub printed-one : (value : Printed → ℕ) (x : Printed) → OneOutcome (λ (n : ℕ). n ≡ value x)
-printed-one value x = one (value x)
+-- `number` and `length` of what print and save answer
+pub written-one : (value : Written → ℕ) (x : Written) → OneOutcome (λ (n : ℕ). n ≡ value x)
+written-one value x = one (value x)

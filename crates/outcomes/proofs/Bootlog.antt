@@ -7,7 +7,7 @@ use Rattle.outcome.specs.Outcome.{OneOutcome}
 use Rattle.outcome.proofs.Outcome.{one, one-pair}
 use Rattle.answers.specs.declared.reading.Reading.{Reading}
 use Rattle.answers.specs.declared.checked.Checked.{Checked}
-use Rattle.layout.specs.Layout.{numberAt, readingOf}
+use Rattle.layout.specs.Layout.{readingOf}
 use Rattle.bootlog.specs.Check.{checkOf, checkBuffer}
 
 pub read-one : (log : List ℕ) → OneOutcome (λ (r : Reading). r ≡ readingOf log)
@@ -15,6 +15,3 @@ read-one log = one (readingOf log)
 
 pub check-one : (log out : List ℕ) → OneOutcome (λ (o : Checked × List ℕ). (o .0 ≡ checkOf log (length out)) × (o .1 ≡ checkBuffer log out))
 check-one log out = one-pair (checkOf log (length out)) (checkBuffer log out)
-
-pub number-at-one : (log : List ℕ) (i : ℕ) → OneOutcome (λ (r : ℕ). r ≡ numberAt log i)
-number-at-one log i = one (numberAt log i)

@@ -38,7 +38,7 @@ aes-round-one x key = one (roundOf x key)
 pub family-one : (m : ℕ) → OneOutcome (λ (r : Family). r ≡ familyOf m)
 family-one m = one (familyOf m)
 
--- the family's numbers: `block_bytes` and the others
+-- the family's numbers: `block_bytes` and the others, and of its saved forms `longest` and the places of the sections
 pub number-one : (number : Family → ℕ) (f : Family) → OneOutcome (λ (r : ℕ). r ≡ number f)
 number-one number f = one (number f)
 

@@ -1,5 +1,7 @@
 pub mod Answers
+pub mod Fields
 pub mod Hash
 pub mod Digest
+pub mod Saved
 pub mod Bootlog
 pub mod Text

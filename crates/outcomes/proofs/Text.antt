@@ -5,7 +5,7 @@ use Prim.Native.Nat.{ℕ}
 use lib.ListN.{length, take}
 use Rattle.outcome.specs.Outcome.{OneOutcome}
 use Rattle.outcome.proofs.Outcome.{one, one-pair}
-use Rattle.answers.specs.declared.printed.Printed.{Printed}
+use Rattle.answers.specs.declared.written.Written.{Written}
 use Rattle.text.specs.Digits.{hexOf, upperOf, decimalOf}
 use Rattle.text.specs.Place.{placed, placeAfter}
 use Rattle.printout.specs.Printout.{printoutOf, printOf}
@@ -35,5 +35,5 @@ pub first-one : (bytes : List ℕ) (n : ℕ) → OneOutcome (λ (r : List ℕ). 
 first-one bytes n = one (take n bytes)
 
 -- `print`
-pub print-one : (log out : List ℕ) → OneOutcome (λ (o : Printed × List ℕ). (o .0 ≡ printOf log (length out)) × (o .1 ≡ placed out 0 (printoutOf log)))
+pub print-one : (log out : List ℕ) → OneOutcome (λ (o : Written × List ℕ). (o .0 ≡ printOf log (length out)) × (o .1 ≡ placed out 0 (printoutOf log)))
 print-one log out = one-pair (printOf log (length out)) (placed out 0 (printoutOf log))

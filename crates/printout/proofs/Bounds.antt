@@ -18,7 +18,7 @@ use Rattle.bootlog.specs.Replay.{registerAt}
 use Rattle.bootlog.specs.Check.{same, endsOf, compared, verdictOf, checkedAt, checkOf, checkBuffer}
 use Rattle.answers.specs.Checked.{checkRegisters}
 use Rattle.answers.specs.declared.refusal.Refusal.the-variants.{BufferShort}
-use Rattle.answers.specs.declared.printed.Printed.the-variants.{Text, Refused}
+use Rattle.answers.specs.declared.written.Written.the-variants.{Bytes, Refused}
 use Rattle.text.specs.Place.{placed}
 use Rattle.layout.proofs.Sizes.{counts}
 use Rattle.bootlog.proofs.Logs.{log-blocks}
@@ -76,6 +76,6 @@ module _ (log out : List ℕ) {n : ℕ} (e : n ≡ length (printoutOf log)) wher
   unfolding printOf placed
   print-short h = (rw (lt-ltb (length out) (length (printoutOf log)) (omega arith)), rw (lt-leb (0 + length (printoutOf log)) (length out) (omega arith)))
 
-  pub print-put : n ≤ length out → {b : List ℕ} → b ≡ placed out 0 (printoutOf log) → (Text n ≡ printOf log (length out)) × (b ≡ placed out 0 (printoutOf log))
+  pub print-put : n ≤ length out → {b : List ℕ} → b ≡ placed out 0 (printoutOf log) → (Bytes n ≡ printOf log (length out)) × (b ≡ placed out 0 (printoutOf log))
   unfolding printOf
   print-put h f = (rw (le-ltb (length out) (length (printoutOf log)) (omega arith), e), f)

@@ -6,8 +6,7 @@ use native.Mathlib.Omega.{arith}
 use lib.Dec.{eqb}
 use lib.ListN.{length, take, drop, length-append, length-take}
 use borrow.Author.Tests.{eq-eqb}
-use Rattle.answers.specs.declared.refusal.Refusal.{Refusal}
-use Rattle.answers.specs.declared.refusal.Refusal.the-variants.{DigestLength, SaltSize, MessageLimit, StateInconsistent, BufferShort, LogExtent, SectionCount, EventRegister}
+use Rattle.answers.proofs.Numbers.{refusal-small}
 use Rattle.answers.specs.Refusal.{refusalNumber}
 use Rattle.answers.specs.declared.checked.Verdict.{Verdict}
 use Rattle.answers.specs.declared.checked.Verdict.the-variants.{NoClaim, Agrees, Differs}
@@ -75,16 +74,6 @@ verdict-length NoClaim h = omega arith
 verdict-length Agrees h = omega arith
 verdict-length (Differs r) h = omega (arith, decimal-length r (omega arith))
 
-refusal-small : (x : Refusal) → refusalNumber x < 10000
-refusal-small DigestLength = omega arith
-refusal-small SaltSize = omega arith
-refusal-small MessageLimit = omega arith
-refusal-small StateInconsistent = omega arith
-refusal-small BufferShort = omega arith
-refusal-small LogExtent = omega arith
-refusal-small SectionCount = omega arith
-refusal-small EventRegister = omega arith
-
 pub text-length : (c : Checked) (bank : List ℕ) → Modest c → length (textOf c bank) ≤ 2048
 unfolding textOf
 text-length (Accepted r n b v) bank h =
@@ -102,4 +91,4 @@ text-length (Accepted r n b v) bank h =
       lines-length bank r (omega arith),
     )
 text-length (Refused x) bank h =
-    let n = refusalNumber x in omega (arith, length-append (decimalOf n) feed, decimal-length n (refusal-small x))
+    let n = refusalNumber x in omega (arith, length-append (decimalOf n) feed, decimal-length n (omega (arith, refusal-small x)))

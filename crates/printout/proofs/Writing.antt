@@ -4,10 +4,10 @@ use mathlib.Core.List.{List, _++_}
 use Prim.Native.Nat.{ℕ, zero, suc, _+_, _*_, _-_, _≤_, _<_}
 use native.Mathlib.Omega.{arith}
 use lib.ListN.{length, take, drop, length-append}
-use lib.Seq.{sets, length-sets, sets-eq, take-at}
+use lib.Seq.{length-sets, sets-eq, take-at}
 use borrow.Author.Tests.{le-leb}
 use Rattle.bootlog.specs.Replay.{registerAt}
-use Rattle.digest.proofs.Stores.{sets-sets}
+use Rattle.fields.proofs.Storing.{sets-sets}
 use Rattle.text.specs.Place.{placed, placeAfter}
 use Rattle.text.proofs.Storing.{place}
 use Rattle.printout.specs.Printout.{registerLine, registerLines}

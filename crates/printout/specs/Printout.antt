@@ -5,8 +5,8 @@ use Prim.Native.Nat.{ℕ, zero, suc}
 use lib.Dec.{ltb}
 use lib.ListN.{length, replicate}
 use Rattle.answers.specs.declared.refusal.Refusal.the-variants.{BufferShort}
-use Rattle.answers.specs.declared.printed.Printed.{Printed}
-use Rattle.answers.specs.declared.printed.Printed.the-variants as printed
+use Rattle.answers.specs.declared.written.Written.{Written}
+use Rattle.answers.specs.declared.written.Written.the-variants as written
 use Rattle.answers.specs.Refusal.{refusalNumber}
 use Rattle.answers.specs.declared.checked.Verdict.{Verdict}
 use Rattle.answers.specs.declared.checked.Verdict.the-variants.{NoClaim, Agrees, Differs}
@@ -68,5 +68,5 @@ unfoldable pub printoutOf : List ℕ → List ℕ
 printoutOf log = textOf (checkOf log 768) (checkBuffer log (replicate 768 0))
 
 -- The answer of print into a buffer of so many bytes: the text's length, or 5 where there is less room.
-unfoldable pub printOf : List ℕ → ℕ → Printed
-printOf log room = cond (ltb room (length (printoutOf log))) (printed.Refused BufferShort) (printed.Text (length (printoutOf log)))
+unfoldable pub printOf : List ℕ → ℕ → Written
+printOf log room = cond (ltb room (length (printoutOf log))) (written.Refused BufferShort) (written.Bytes (length (printoutOf log)))

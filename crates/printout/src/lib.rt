@@ -8,9 +8,9 @@ ghost use Rattle.text.specs.Place.{placed};
 ghost use Rattle.printout.specs.Printout.{verdictText, registerLine, registerLines, spaced, textOf, printoutOf, printOf};
 ghost use Rattle.printout.specs.Wrote.{Room, Wrote};
 use answers::Checked;
-use answers::Printed;
 use answers::Refusal;
 use answers::Verdict;
+use answers::Written;
 
 // The calls of text, where there is room.
 fn word(out: &mut [u8], at: usize, bytes: &[u8]) -> usize
@@ -107,7 +107,7 @@ fn compose(out: &mut [u8], bank: &[u8], checked: Checked) -> usize
 }
 
 // Checks a log and puts the check's text at the buffer's front: all of it, or nothing where it does not fit.
-pub fn print(log: &[u8], out: &mut [u8]) -> Printed
+pub fn print(log: &[u8], out: &mut [u8]) -> Written
     ensures result { λ r. ⌜ r ≡ printOf (now (log .entry)) (length (now (out .entry))) ⌝ }
     ensures buffer { λ r. ⌜ now (out .exit) ≡ placed (now (out .entry)) 0 (printoutOf (now (log .entry))) ⌝ }
 {
@@ -116,8 +116,8 @@ pub fn print(log: &[u8], out: &mut [u8]) -> Printed
     let mut whole = [0u8; 2048];
     let n = compose(&mut whole, &bank, checked);
     if out.len() < n {
-        return Printed::Refused(Refusal::BufferShort);
+        return Written::Refused(Refusal::BufferShort);
     }
     text::put(out, 0, &whole[..n]);
-    Printed::Text(n)
+    Written::Bytes(n)
 }

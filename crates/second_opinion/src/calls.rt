@@ -1,4 +1,5 @@
 // The calls that a line can make, by name. Each fills `out` with what the line gives, and answers how long that is.
+use crate::forms;
 use crate::given;
 use crate::hashing;
 use crate::logs;
@@ -22,6 +23,8 @@ enum Call {
     Finish,
     OneShot,
     Check,
+    Save,
+    Load,
     Unreadable,
 }
 
@@ -37,6 +40,12 @@ fn named(line: &[u8]) -> Call {
     }
     if n == 1 && words::same(name, b"finish") {
         return Call::Finish;
+    }
+    if n == 1 && words::same(name, b"save") {
+        return Call::Save;
+    }
+    if n == 1 && words::same(name, b"load") {
+        return Call::Load;
     }
     if n == 2 && words::same(name, b"begin") {
         return Call::Begin;
@@ -74,6 +83,7 @@ fn asked(
         Call::Finish => hashing::finish(line, state, lent, out),
         Call::OneShot => hashing::one_shot(line, salt, data, lent, out),
         Call::Check => logs::check(line, data, lent, out),
+        Call::Save => forms::save(line, state, lent, out),
         _ => show::unreadable(out),
     }
 }
@@ -92,6 +102,7 @@ pub(crate) fn answer(
         Call::Begin => hashing::begin(line, state, salt, out),
         Call::State => given::given(line, state, out),
         Call::Add => hashing::add(line, state, data, out),
+        Call::Load => forms::load(line, state, data, out),
         _ => Said {
             size: asked(call, line, state, salt, data, lent, out),
             state: state,

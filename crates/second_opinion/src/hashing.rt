@@ -9,7 +9,7 @@ use crate::words;
 use state::State;
 
 // The answer's number, and the state handed back.
-fn stepped(out: &mut [u8], name: &[u8], step: digest::Step) -> Said {
+pub(crate) fn stepped(out: &mut [u8], name: &[u8], step: digest::Step) -> Said {
     let answer = step.answer;
     let state = step.state;
     let a = text::put(out, 0, name);

@@ -1,5 +1,6 @@
-// Answers a file of cases, one line for each call: begin, state, add, finish, oneshot and check, on one current state.
+// Answers a file of cases, one line for each call: begin, state, add, finish, oneshot, check, save and load, on one current state.
 mod calls;
+mod forms;
 mod given;
 mod hashing;
 mod input;

@@ -2,7 +2,7 @@
 use answers::Checked;
 use answers::Report;
 use answers::Verdict;
-use family::Family;
+use answers::Written;
 use state::State;
 
 // The whole line, where the one read is not as the format has it.
@@ -21,13 +21,6 @@ pub(crate) fn bytes(out: &mut [u8], at: usize, bytes: &[u8]) -> usize {
     }
     let from = text::put(out, at, b" ");
     text::put_hex(out, from, bytes)
-}
-
-fn family_number(family: Family) -> u64 {
-    match family {
-        Family::Small => 0,
-        Family::Large => 1,
-    }
 }
 
 // The four bytes of a word, most significant first.
@@ -55,7 +48,7 @@ fn chain(out: &mut [u8], at: usize, words: [u32; 16]) -> usize {
 fn settings(out: &mut [u8], at: usize, state: State) -> usize {
     let family = state.family;
     let salt = state.salt;
-    let a = number(out, at, family_number(family));
+    let a = number(out, at, family.number() as u64);
     let b = number(out, a, state.m as u64);
     bytes(out, b, &salt)
 }
@@ -81,6 +74,12 @@ pub(crate) fn report(out: &mut [u8], at: usize, report: Report) -> usize {
     let a = number(out, at, report.number() as u64);
     let b = number(out, a, report.covered());
     number(out, b, report.blocks())
+}
+
+// The refusal number or 0, and how many bytes were written.
+pub(crate) fn written(out: &mut [u8], at: usize, written: Written) -> usize {
+    let a = number(out, at, written.number() as u64);
+    number(out, a, written.length() as u64)
 }
 
 fn verdict(out: &mut [u8], at: usize, verdict: Verdict) -> usize {

@@ -1,15 +1,15 @@
--- Zeros behind a list: fill, the test for zeros, and the length of little-endian bytes.
+-- Zeros behind a list: fill, and the test for zeros.
 use mathlib.Core.Path.{_≡_, refl, ap, ap₂, sym, _∙_}
 use mathlib.Core.Bool.{true}
 use mathlib.Core.List.{List, [], _∷_, _++_}
-use Prim.Native.Nat.{ℕ, zero, suc, _+_, _-_, _/_, _≤_, _<_}
+use Prim.Native.Nat.{ℕ, zero, suc, _+_, _-_, _≤_, _<_}
 use native.Mathlib.Omega.{arith}
 use lib.Dec.{eqb}
 use lib.ListN.{length, take, drop, set, replicate, length-append, length-take, length-drop, length-replicate, take-append-drop}
 use lib.Seq.{set-at, take-at, drop-append-add, append-snoc}
 use borrow.Author.Tests.{eqb-true}
 use Rattle.answers.proofs.Tests.{and-left, and-right}
-use Rattle.state.specs.Bytes.{le, fill, allZero}
+use Rattle.state.specs.Bytes.{fill, allZero}
 
 pub zero-list : (n : ℕ) → allZero (replicate n 0) ≡ true
 unfolding allZero
@@ -62,8 +62,3 @@ module _ (k : ℕ) where
   zero-fill xs r h =
       let e : r ≡ length xs + (r - length xs) = omega arith in
       rw (e, drop-append-add) (zero-drop (r - length xs) (k - length xs))
-
-pub le-length : (k n : ℕ) → length (le k n) ≡ k
-unfolding le
-le-length zero n = refl
-le-length (suc k) n = ap suc (le-length k (n / 256))

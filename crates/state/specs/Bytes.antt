@@ -1,19 +1,9 @@
--- Bytes: little-endian numbers, zeros behind a list, and the test for zeros.
+-- Bytes: zeros behind a list, and the test for zeros.
 use mathlib.Core.Bool.{Bool, true, _&&_}
 use mathlib.Core.List.{List, [], _∷_, _++_}
-use Prim.Native.Nat.{ℕ, zero, suc, _+_, _-_, _/_, _%_}
+use Prim.Native.Nat.{ℕ, _+_, _-_}
 use lib.Dec.{eqb}
 use lib.ListN.{length, replicate}
-
--- k bytes of n, the low one first
-unfoldable pub le : ℕ → ℕ → List ℕ
-le zero n = []
-le (suc k) n = n % 256 ∷ le k (n / 256)
-
--- the bytes of words, each word's byte 0 first
-unfoldable pub bytesOf : List ℕ → List ℕ
-bytesOf [] = []
-bytesOf (w ∷ ws) = le 4 w ++ bytesOf ws
 
 -- xs, and zeros up to k places
 unfoldable pub fill : ℕ → List ℕ → List ℕ

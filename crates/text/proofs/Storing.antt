@@ -5,7 +5,7 @@ use mathlib.Core.List.{List, [], _∷_}
 use Prim.Native.Nat.{ℕ, suc, _+_, _-_, _*_, _≤_, _<_}
 use native.Mathlib.Omega.{arith}
 use lib.Dec.{leb}
-use lib.ListN.{length, getD, drop, set, drop-of-length-le}
+use lib.ListN.{length, getD, drop, drop-of-length-le}
 use lib.Seq.{sets, drop-cons}
 use borrow.Author.Tests.{le-leb, lt-leb, leb-true, leb-false}
 use Rattle.text.specs.Place.{placed, placeAfter}
@@ -21,16 +21,6 @@ module _ (out : List ℕ) (at : ℕ) (xs : List ℕ) where
       → (at + length xs ≡ placeAfter (length out) at xs) × (sets out at xs ≡ placed out at xs)
   unfolding placed placeAfter
   place h = (rw h, rw h)
-
-pub store-step : (b xs : List ℕ) (at i : ℕ) → i < length xs
-    → sets b (at + i) (drop i xs) ≡ sets (set b (at + i) (getD xs i 0)) (at + (i + 1)) (drop (i + 1) xs)
-store-step b xs at i h =
-    let p : suc (at + i) ≡ at + (i + 1) = omega arith in
-    let q : suc i ≡ i + 1 = omega arith in
-    rw (drop-cons xs i 0 h, ← p, ← q)
-
-pub store-end : (b xs : List ℕ) (at i : ℕ) → length xs ≤ i → sets b (at + i) (drop i xs) ≡ b
-store-end b xs at i h = rw drop-of-length-le
 
 -- the test by a difference is the test by a sum
 pub fits-none : (size at count : ℕ) → size < count → false ≡ leb (at + count) size

@@ -5,7 +5,6 @@ ghost use mathlib.Core.List.{[], _∷_};
 ghost use Prim.Native.Nat.{_+_, _≤_, _%_};
 ghost use lib.Dec.{leb};
 ghost use lib.ListN.{length, take};
-ghost use lib.Seq.{sets};
 ghost use Rattle.text.specs.Place.{placed, placeAfter};
 ghost use Rattle.text.specs.Digits.{digit, hexOf, upperOf, decimalOf};
 
@@ -23,17 +22,6 @@ fn fits(size: usize, at: usize, count: usize) -> bool
     at <= size - count
 }
 
-fn store(out: &mut [u8], at: usize, bytes: &[u8])
-    requires { ⌜ at + length (now bytes) ≤ length (now out) ⌝ }
-    ensures { λ r. ⌜ now (out .exit) ≡ sets (now (out .entry)) at (now (bytes .entry)) ⌝ }
-{
-    let mut i = 0;
-    while i < bytes.len() {
-        out[at + i] = bytes[i];
-        i += 1;
-    }
-}
-
 // Bytes as they are.
 pub fn put(out: &mut [u8], at: usize, bytes: &[u8]) -> usize
     ensures place { λ r. ⌜ r ≡ placeAfter (length (now (out .entry))) at (now (bytes .entry)) ⌝ }
@@ -42,7 +30,7 @@ pub fn put(out: &mut [u8], at: usize, bytes: &[u8]) -> usize
     if !fits(out.len(), at, bytes.len()) {
         return at;
     }
-    store(out, at, bytes);
+    fields::put_bytes(out, at, bytes);
     at + bytes.len()
 }
 
@@ -76,7 +64,7 @@ pub fn put_hex(out: &mut [u8], at: usize, bytes: &[u8]) -> usize
     let mut i = 0;
     while i < bytes.len() {
         let digits = pair(bytes[i]);
-        store(out, at + 2 * i, &digits);
+        fields::put_bytes(out, at + 2 * i, &digits);
         i += 1;
     }
     at + 2 * bytes.len()
@@ -127,5 +115,5 @@ pub fn put_decimal(out: &mut [u8], at: usize, n: u64) -> usize
 pub fn first(bytes: &[u8], n: usize) -> &[u8]
     ensures { λ r. ⌜ now r ≡ take n (now (bytes .entry)) ⌝ }
 {
-    if n <= bytes.len() { &bytes[..n] } else { bytes }
+    fields::part(bytes, 0, n)
 }

@@ -30,7 +30,7 @@ returns-2 c =
     let e = c .before .before .before .before in
     let a = e .before .before .before .before .args in
     let p = place (a .out .now) (a .at) (a .bytes .now) (ok e) in
-    (p .0, c .before .before .store .ensures ∙ p .1)
+    (p .0, c .before .before .put-bytes .ensures ∙ p .1)
 
 pub put-spec : {M : Type 1} → statement M
 put-spec =
@@ -38,7 +38,7 @@ put-spec =
     (tie.spec
     (λ c κs. search needs)
     returns
-    (λ c κs. within (c .before))
+    (λ c κs. search needs)
     (λ c. omega (arith, within (c .before .before .before .before)))
     (λ c. search needs)
     returns-2)

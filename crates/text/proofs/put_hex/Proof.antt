@@ -9,7 +9,7 @@ use lib.ListN.{length, drop, getD}
 use lib.Seq.{sets, length-sets}
 use borrow.Author.Needs.{needs}
 use Rattle.text.specs.Digits.{hexOf}
-use Rattle.text.proofs.Storing.{hex-length, hex-step, hex-end, hex-none, hex-placed}
+use Rattle.text.proofs.Storing.{hex-step, hex-end, hex-none, hex-placed}
 use borrow.Author.Tests.{lt-leb, leb-true, not-true, not-false}
 use Rattle.text.proofs.put_hex.Statement.{statement}
 use Rattle.text.proofs.put_hex.Tie as tie
@@ -45,14 +45,6 @@ loop-holds c =
     let e : at + 0 ≡ at = omega arith in
     (omega arith, refl, rw e)
 
-store-requires : tie.Need-store-requires Inv-loop μ-loop
-store-requires c κs =
-    let p = c .before .before in
-    let l = p .before .before .before in
-    let a = l .before .before .before .before .before .before .args in
-    let e = ap length (p .pair .ensures) ∙ hex-length (getD (a .bytes .now) (l .loop .i) 0 ∷ []) in
-    omega (arith, e, within (l .before), l .loop .inv .1, p .before .before .loop-test .taken)
-
 loop-again : tie.Need-loop-again Inv-loop μ-loop
 loop-again c =
     let p = c .before .before .before .before .before in
@@ -60,7 +52,7 @@ loop-again c =
     let a = l .before .before .before .before .before .before .args in
     let o = l .loop .out in
     let i = l .loop .i in
-    let e = c .before .before .store .ensures ∙ ap (λ (x : List ℕ). sets o (a .at + 2 * i) x) (p .pair .ensures) in (
+    let e = c .before .before .put-bytes .ensures ∙ ap (λ (x : List ℕ). sets o (a .at + 2 * i) x) (p .pair .ensures) in (
       omega arith,
       ap length e ∙ length-sets o (a .at + 2 * i) (hexOf (getD (a .bytes .now) i 0 ∷ [])) ∙ l .loop .inv .1,
       l .loop .inv .2 ∙ hex-step o (a .bytes .now) (a .at) i (p .before .before .loop-test .taken)
@@ -90,7 +82,7 @@ put-hex-spec =
     (λ c. omega (arith, within (c .before .before .before .before .before)))
     (λ c. omega (arith, within (c .before .before .before .before .before)))
     (λ c. search needs)
-    store-requires
+    (λ c κs. search needs)
     (λ c. search needs)
     (λ c. search needs)
     loop-again

@@ -56,11 +56,6 @@ loop-holds c =
 sub-least : tie.Need-sub-least Inv-loop μ-loop
 sub-least c = omega (arith, c .before .loop .inv .1 .small, sizing (c .before) .block-bytes .ensures)
 
-take-in-requires : tie.Need-take-in-requires Inv-loop μ-loop
-take-in-requires c κs =
-    let t = taken c in
-    (omega (arith, t .2, sized (sizing (c .before .before))), t .1)
-
 add-compressed : tie.Need-add-compressed Inv-loop μ-loop
 add-compressed c =
     let l = c .before .before .before .before .before .before in
@@ -110,7 +105,7 @@ absorb-spec =
     sub-least
     (λ c. search needs)
     (λ c κs. search needs)
-    take-in-requires
+    (λ c κs. search needs)
     (λ c. omega (arith, taken (c .before) .2, sized (sizing (c .before .before .before))))
     (λ c. omega (arith, taken (c .before) .1))
     (λ c κs. search needs)

@@ -30,7 +30,7 @@ with-length-spec =
     add-at
     (λ c κs. search needs)
     (λ c. search needs)
-    (λ c κs. omega (arith, room (c .before)))
+    (λ c κs. search needs)
     (λ c. omega (arith, room (c .before .before)))
-    (λ c κs. omega (arith, room (c .before .before)))
+    (λ c κs. search needs)
     returns)

@@ -1,0 +1,5 @@
+pub mod Answers
+pub mod Bounds
+pub mod Judging
+pub mod Made
+pub mod Numbers
