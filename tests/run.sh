@@ -3,6 +3,11 @@
 set -euo pipefail
 cd "$(dirname "$0")/.."
 command -v rustc >/dev/null || { apt-get update -qq && apt-get install -y -qq rustc; } >/dev/null
+# An objdump that reads x86-64, which programs are compiled for on every machine.
+reads() { [[ "$("$1" -i 2>/dev/null)" == *elf64-x86-64* ]]; }
+objdump=x86_64-linux-gnu-objdump
+reads "$objdump" || ! reads objdump || objdump=objdump
+reads "$objdump" || { apt-get update -qq && apt-get install -y -qq binutils-x86-64-linux-gnu; } >/dev/null
 made=$(mktemp -d)
 trap 'rm -rf "$made"' EXIT
 
@@ -30,6 +35,8 @@ have values "$(sed -n 's/^selftest: \([0-9]*\) values met$/\1/p' "$made/selftest
 { "$made/second" printed; "$made/second" ruled; } | cmp - crates/printed_values/stdout
 mapfile -t words <crates/shavite3sum/args
 "$made/second" sum "${words[@]}" <crates/shavite3sum/stdin | cmp - crates/shavite3sum/stdout
+"$made/second" image | cmp - crates/first_stage/stdin
+"$made/second" stage <crates/first_stage/stdin | cmp - crates/first_stage/stdout
 
 # The samples are those that the second program makes, no more and no fewer, here and where the first one's run finds them.
 mkdir "$made/samples"
@@ -49,5 +56,21 @@ status=0
 rt ci 2>&1 | tee "$made/ci" || status=$?
 passed=$(sed -n '$s/^\([0-9]*\) passed, 0 failed$/\1/p' "$made/ci")
 have passed "${passed:-0}"
+
+# The first stage hands over what the second program does, also where the input ends at a block or a read, before it or behind it.
+for size in 0 1 63 64 65 4095 4096 4097; do
+    head -c "$size" crates/first_stage/stdin >"$made/image"
+    "$made/second" stage <"$made/image" >"$made/form"
+    bin/run first_stage <"$made/image" | cmp - "$made/form"
+done
+
+# The small family's compression stands apart from the large one's words in every program but the one that hashes nothing, and needs little stack.
+rustc -O --edition 2021 tests/stack.rs -o "$made/stack"
+for main in crates/*/src/main.rt; do
+    program=$(basename "${main%/src/main.rt}")
+    [ "$program" = fips_round ] && continue
+    echo "$program"
+    "$objdump" -d --no-show-raw-insn "target/bin/$program" | "$made/stack" compress::cipher::small "$(expected stack)"
+done
 tail -n 1 "$made/ci"
 exit "$status"

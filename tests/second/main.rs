@@ -15,13 +15,14 @@ mod random;
 mod samples;
 mod saved;
 mod selftest;
+mod stage;
 mod sum;
 
 use std::io::{Error, ErrorKind, Read, Write};
 use std::process::ExitCode;
 
 const USAGE: &str = "usage: selftest | cases | expect | samples DIR | print | printed | ruled | \
-    sum [M [SALT-HEX]]";
+    sum [M [SALT-HEX]] | image | stage";
 
 fn main() -> ExitCode {
     // `args` would panic on a word that is not text, and the exit code would not be 1.
@@ -67,6 +68,8 @@ fn obey(words: &[&str]) -> std::io::Result<bool> {
             let (m, salt) = sum::asked(rest).map_err(unreadable)?;
             hear(u64::MAX).and_then(|input| say(&sum::text(m, &salt, &input))).map(|()| true)
         }
+        ["image"] => put(&stage::image()).map(|()| true),
+        ["stage"] => hear(u64::MAX).and_then(|input| put(&stage::output(&input))).map(|()| true),
         _ => {
             eprintln!("{USAGE}");
             Ok(false)
@@ -82,7 +85,12 @@ fn hear(most: u64) -> std::io::Result<Vec<u8>> {
 }
 
 fn say(text: &str) -> std::io::Result<()> {
+    put(text.as_bytes())
+}
+
+/// Raw bytes to standard output.
+fn put(bytes: &[u8]) -> std::io::Result<()> {
     let mut out = std::io::stdout().lock();
-    out.write_all(text.as_bytes())?;
+    out.write_all(bytes)?;
     out.flush()
 }

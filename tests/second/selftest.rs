@@ -1,7 +1,7 @@
 //! Comparison with every printed value.
 
 use crate::digest::{
-    add, begin, closing_blocks, finish, one_shot, whole_list, write_digest, State,
+    add, begin, closing_blocks, finish, one_shot, whole_list, write_digest, State, LIMIT,
 };
 use crate::hash::{compress, field_product, master_value, starting_chain, Family, SBOX};
 use crate::lines::hex;
@@ -9,6 +9,7 @@ use crate::log::printed_check;
 use crate::printed::{salt_byte, Message, What, TABLE};
 use crate::samples::smallest;
 use crate::saved::{load, save};
+use crate::stage;
 use crate::sum;
 
 /// Counters that document 01 lists (marked P there): family, bytes, counters.
@@ -75,6 +76,20 @@ const FORM_REFUSALS: [(&[(usize, u8)], usize, u8); 14] = [
     (&[(4, 0)], 90, 9),
 ];
 
+/// The form that `stage` writes for the empty input, written out: parameters, salt, chain, covered,
+/// no held bytes. The chain is IV_256 of source 003, each word's bytes lowest first.
+const EMPTY_STAGE: [&str; 5] = [
+    "0200 0000 0001",
+    "0800 0000000000000000000000000000000000000000000000000000000000000000",
+    "0800 51f5ec3e9b8110bf5985dce6d53fe2f373ec1a4331f7e379055f3298f1312aa9",
+    "0100 0000000000000000",
+    "0000",
+];
+
+/// Bytes of an input of `stage` and of the form it gives. The last input is the whole image.
+const STAGE_SIZES: [(usize, usize); 6] =
+    [(1, 87), (63, 149), (64, 86), (65, 87), (128, 86), (10_037, 139)];
+
 struct Tally {
     met: usize,
     missed: Vec<String>,
@@ -116,6 +131,7 @@ pub fn run() -> (String, bool) {
     tally.value("cuts against whole messages", cuts_agree());
     sum_values(&mut tally);
     saved_values(&mut tally);
+    stage_values(&mut tally);
     let mut text: String =
         tally.missed.iter().map(|label| format!("selftest: not met: {label}\n")).collect();
     text += &format!("selftest: {} values met\n", tally.met);
@@ -328,4 +344,41 @@ fn saved_values(tally: &mut Tally) {
     for (m, salt_size) in [(256, 0), (160, 32), (512, 0), (264, 64)] {
         tally.value(&format!("handed over at {m} bits"), handed_over_agree(m, salt_size));
     }
+}
+
+/// Whether the form, read back, gone on with and finished, gives the digest of both parts joined.
+fn stage_goes_on(form: &[u8], input: &[u8], more: &[u8]) -> bool {
+    let (number, read) = load(form);
+    let (mut out, mut whole) = ([0; 32], [0; 32]);
+    let report = finish(&add(&read, more).1, &mut out);
+    let whole_report = one_shot(256, &[], &[input, more].concat(), &mut whole);
+    number == 0 && report.number == 0 && report == whole_report && out == whole
+}
+
+/// The `stage` mode: the form of the empty input, lengths, forms gone on with, refusals. The inputs
+/// are the front of the image.
+fn stage_values(tally: &mut Tally) {
+    let empty = EMPTY_STAGE.concat().replace(' ', "");
+    let printed = TABLE.iter().find(|entry| matches!(entry.what, What::Start(256)));
+    let right = printed.map(|entry| start_form(256, &entry.numbers())) == Some(empty.clone());
+    tally.value("stage of the empty input", right && hex(&stage::output(&[])) == empty);
+
+    let image = stage::image();
+    tally.value("bytes of the image", image.len() == 10_037);
+    let second_half: Vec<u8> = (0..1000u32).map(|i| (i * i / 11 + 91) as u8).collect();
+    for (size, form_size) in STAGE_SIZES {
+        let input = &image[..size.min(image.len())];
+        let form = stage::output(input);
+        tally.value(&format!("form length of stage, {size} bytes"), form.len() == form_size);
+        let right = stage_goes_on(&form, input, &[]);
+        tally.value(&format!("stage finished, {size} bytes"), right);
+        let right = stage_goes_on(&form, input, &second_half);
+        tally.value(&format!("stage gone on with, {size} bytes"), right);
+    }
+    // By begin, by add, by save.
+    let full = State { covered: LIMIT, compressed: LIMIT / 64, ..begin(256, &[]).1 };
+    let right = stage::output_from(begin(257, &[]), b"A") == b"refused 1\n"
+        && stage::output_from((0, full), b"A") == b"refused 3\n"
+        && stage::output_from((0, State::zero()), &[]) == b"refused 4\n";
+    tally.value("refusals of stage", right);
 }

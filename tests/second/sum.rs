@@ -55,7 +55,8 @@ fn digested(m: u16, salt: &[u8], input: &[u8]) -> Result<String, u8> {
     Ok(format!("{} {} {}", hex(&digest), report.covered, report.compressed))
 }
 
-fn accepted(number: u8) -> Result<(), u8> {
+/// Goes on where a call's number is 0.
+pub fn accepted(number: u8) -> Result<(), u8> {
     if number == 0 {
         Ok(())
     } else {

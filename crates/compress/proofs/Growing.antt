@@ -1,20 +1,21 @@
 -- Words that grow at their end, in an array that is filled in order: common to both families.
 use mathlib.Core.Path.{_≡_, refl, sym, ap, ap₂, _∙_}
 use Prim.Native.Nat.{ℕ, zero, suc, _+_, _-_, _*_, _/_, _%_, _≤_, _<_}
-use native.Mathlib.Nat.{add-assoc}
+use native.Mathlib.Nat.{add-zero, add-assoc}
 use native.Mathlib.Numerals.{add-one}
 use native.Mathlib.Omega.{arith}
-use mathlib.Core.List.{List, [], _∷_, _++_, append-assoc}
-use lib.ListN.{length, getD, set, take, drop, length-set, length-append}
-use lib.Seq.{take-suc-set, getD-take, length-take-le, set-at, take-at, take-all, drop-cons, append-snoc}
+use mathlib.Core.List.{List, [], _∷_, _++_}
+use lib.ListN.{length, getD, set, take, drop, length-append}
+use lib.Seq.{take-suc-set, getD-take, length-take-le, set-at, sets, sets-eq, take-at, take-all, drop-cons, append-snoc}
 use lib.Bits.{bitXor}
 use borrow.Author.Tests.{eq-eqb, ne-eqb}
-use Rattle.words.specs.Words.{times, fourAt, wordAt, wordsOf}
+use Rattle.words.specs.Words.{times, fourAt, wordAt, wordsOf, zero4}
 use Rattle.family.specs.declared.Family.{Family}
+use Rattle.family.specs.declared.Family.the-variants.{Small, Large}
 use Rattle.counter.specs.declared.Counter.{Counter}
 use Rattle.family.specs.Family.{blockWords, nearDistance, saltQuads, runs, expandedWords}
 use Rattle.family.proofs.Numbers.{numbers}
-use Rattle.compress.specs.Expansion.{back, places, tapsOf, lastOf, groupOf, linearOf, linearRun, nonlinearRun, runOf, expandOf}
+use Rattle.compress.specs.Expansion.{back, places, enters, countsOf, tapsOf, lastOf, groupOf, linearOf, linearRun, nonlinearRun, runOf, expandOf}
 
 pub times-more : {A : Type 0} (n : ℕ) (f : ℕ → A → A) (s : A) → times (n + 1) f s ≡ f n (times n f s)
 unfolding times
@@ -46,21 +47,10 @@ pub put-more : (l : List ℕ) (i v : ℕ) → i < length l → take (i + 1) (set
 put-more l i v h = rw add-one (take-suc-set l i v h)
 
 -- four stores are four words more
-pub put-four : (l : List ℕ) (i a b c d : ℕ) → i + 4 ≤ length l
-    → take (i + 4) (set (set (set (set l i a) (i + 1) b) (i + 2) c) (i + 3) d) ≡ take i l ++ (a ∷ b ∷ c ∷ d ∷ [])
-put-four l i a b c d h =
-    let l1 = set l i a in
-    let l2 = set l1 (i + 1) b in
-    let l3 = set l2 (i + 2) c in
-    let e1 = put-more l i a (omega arith) in
-    let e2 = put-more l1 (i + 1) b (simp length-set (omega arith)) in
-    let e3 = put-more l2 (i + 2) c (simp length-set (omega arith)) in
-    let e4 = put-more l3 (i + 3) d (simp length-set (omega arith)) in
-    let s2 : i + 1 + 1 ≡ i + 2 = omega arith in
-    let s3 : i + 2 + 1 ≡ i + 3 = omega arith in
-    let s4 : i + 3 + 1 ≡ i + 4 = omega arith in
-    let e : take (i + 4) (set l3 (i + 3) d) ≡ (((take i l ++ (a ∷ [])) ++ (b ∷ [])) ++ (c ∷ [])) ++ (d ∷ []) = cc in
-    e ∙ simp append-assoc
+pub put-four : (l x : List ℕ) (i : ℕ) → length x ≡ 4 → i + 4 ≤ length l → take (i + 4) (sets l i x) ≡ take i l ++ x
+put-four l x i e h =
+    let n : length (take i l ++ x) ≡ i + 4 = rw (length-append, length-take-le i l (omega arith), e) in
+    rw (sets-eq x l i (omega arith)) (take-at (take i l ++ x) (drop (i + length x) l) (i + 4) n)
 
 -- ---- words read back from an array that is filled up to i
 pub back-take : (w : List ℕ) (i d : ℕ) → i ≤ length w → 0 < d → d ≤ i → getD w (i - d) 0 ≡ back (take i w) d
@@ -89,6 +79,24 @@ module _ (w : List ℕ) (i : ℕ) (h : i ≤ length w) where
         back-take w i 1 h (omega arith) (omega arith),
       )
 
+-- ---- what enters of the counter
+-- no place of the table stands in the group at i
+abbrev pub Apart : List (ℕ × ℕ) → ℕ → Type 0
+Apart [] i = Unit {0}
+Apart (p ∷ ps) i = (i ≡ 4 * (p .0 / 4) → ⊥) × Apart ps i
+
+enters-none : (ps : List (ℕ × ℕ)) (i k : ℕ) → i % 4 ≡ 0 → k < 4 → Apart ps i → enters ps (i + k) ≡ 0
+unfolding enters
+enters-none [] i k m h a = refl
+enters-none (p ∷ ps) i k m h a = rw (ne-eqb (i + k) (p .0) (λ e. a .0 (omega arith))) (enters-none ps i k m h (a .1))
+
+-- nothing enters such a group
+pub counts-none : (ps : List (ℕ × ℕ)) (i : ℕ) → i % 4 ≡ 0 → Apart ps i → zero4 ≡ countsOf ps i
+unfolding countsOf
+counts-none ps i m a =
+    let n : enters ps i ≡ 0 = rw add-zero at (enters-none ps i 0 m (omega arith) a) in
+    rw (n, enters-none ps i 1 m (omega arith) a, enters-none ps i 2 m (omega arith) a, enters-none ps i 3 m (omega arith) a)
+
 -- ---- a turn of each loop
 module _ (n near : ℕ) (v w : List ℕ) (i k : ℕ) (h : i + k < length v) (hn : 0 < n) (n≤ : n ≤ i + k) (hm : 0 < near) (m≤ : near ≤ i + k)
     (e : take (i + k) v ≡ linearRun n near k w) where
@@ -113,6 +121,11 @@ module _ (n q : ℕ) (places : List (ℕ × ℕ)) (salt v v′ w : List ℕ) (i 
       ap (λ (m : ℕ). take m v′) a ∙ p ∙ ap (λ (u : List ℕ). u ++ groupOf n places (fourAt salt (4 * (k % q))) u) e ∙ sym (times-more k _ w)
 
 -- ---- runs
+-- a run starts at a group
+pub run-group : (f : Family) (r : ℕ) → blockWords f * (r + 1) % 4 ≡ 0
+run-group Small r = omega arith
+run-group Large r = omega arith
+
 module _ (f : Family) (c : Counter) (salt : List ℕ) (r : ℕ) (w : List ℕ) where
   pub run-even : r % 2 ≡ 0 → runOf f c salt r w ≡ nonlinearRun (blockWords f) (saltQuads f) (places f c) salt (blockWords f / 4) w
   unfolding runOf

@@ -1,3 +1,4 @@
 pub mod Expansion
 pub mod Cipher
 pub mod Compression
+pub mod Window

@@ -1,64 +1,37 @@
 // The message expansion, once for both families: the words are filled in order.
 ghost use mathlib.Core.Path.{_≡_};
 ghost use mathlib.Core.List.{_++_};
-ghost use Prim.Native.Nat.{_+_, _*_, _/_, _≤_, _<_};
+ghost use Prim.Native.Nat.{_+_, _*_, _/_, _%_, _≤_, _<_};
 ghost use lib.ListN.{length, take};
 ghost use Rattle.family.specs.declared.Family.the-variants.{Small, Large};
 ghost use Rattle.family.specs.Family.{blockWords, saltQuads, expandedWords};
 ghost use Rattle.words.specs.Words.{wordsOf};
-ghost use Rattle.compress.specs.Expansion.{places, enters, tapsOf, lastOf, countsOf, groupOf, nonlinearRun, linearRun, runOf, expandOf};
+ghost use Rattle.compress.specs.Expansion.{places, tapsOf, lastOf, countsOf, groupOf, nonlinearRun, linearRun, runOf, expandOf};
 use crate::quads;
 use counter::Counter;
 use family::Family;
 
-fn entering_small(i: usize, c: Counter) -> u32
-    ensures { λ r. ⌜ r ≡ enters (places Small c) i ⌝ }
-{
-    match i {
-        16 | 124 => c.0,
-        58 | 87 => c.0 ^ 0xFFFF_FFFF,
-        57 | 86 => c.1,
-        17 | 127 => c.1 ^ 0xFFFF_FFFF,
-        _ => 0,
-    }
-}
-
-fn entering_large(i: usize, c: Counter) -> u32
-    ensures { λ r. ⌜ r ≡ enters (places Large c) i ⌝ }
-{
-    match i {
-        32 | 318 | 441 => c.0,
-        33 | 166 | 440 => c.1,
-        34 | 165 | 316 => c.2,
-        164 | 317 | 442 => c.3,
-        167 => c.0 ^ 0xFFFF_FFFF,
-        319 => c.1 ^ 0xFFFF_FFFF,
-        443 => c.2 ^ 0xFFFF_FFFF,
-        35 => c.3 ^ 0xFFFF_FFFF,
-        _ => 0,
-    }
-}
-
-// What enters word i of the counter.
-fn entering(family: Family, i: usize, c: Counter) -> u32
-    ensures { λ r. ⌜ r ≡ enters (places family c) i ⌝ }
-{
-    match family {
-        Family::Small => entering_small(i, c),
-        Family::Large => entering_large(i, c),
-    }
-}
-
-fn counts(family: Family, i: usize, c: Counter) -> [u32; 4]
-    requires { ⌜ i ≤ expandedWords Large ⌝ }
+// What enters the group at i of the counter.
+pub(crate) fn counts(family: Family, i: usize, c: Counter) -> [u32; 4]
+    requires { ⌜ i % 4 ≡ 0 ⌝ }
     ensures { λ r. ⌜ r ≡ countsOf (places family c) i ⌝ }
 {
-    [
-        entering(family, i, c),
-        entering(family, i + 1, c),
-        entering(family, i + 2, c),
-        entering(family, i + 3, c),
-    ]
+    match family {
+        Family::Small => match i {
+            16 => [c.0, c.1 ^ 0xFFFF_FFFF, 0, 0],
+            56 => [0, c.1, c.0 ^ 0xFFFF_FFFF, 0],
+            84 => [0, 0, c.1, c.0 ^ 0xFFFF_FFFF],
+            124 => [c.0, 0, 0, c.1 ^ 0xFFFF_FFFF],
+            _ => [0, 0, 0, 0],
+        },
+        Family::Large => match i {
+            32 => [c.0, c.1, c.2, c.3 ^ 0xFFFF_FFFF],
+            164 => [c.3, c.2, c.1, c.0 ^ 0xFFFF_FFFF],
+            316 => [c.2, c.3, c.0, c.1 ^ 0xFFFF_FFFF],
+            440 => [c.1, c.0, c.3, c.2 ^ 0xFFFF_FFFF],
+            _ => [0, 0, 0, 0],
+        },
+    }
 }
 
 // The words that a group at i is made from, n being the far distance.
@@ -79,7 +52,7 @@ fn last(w: &[u32], i: usize) -> [u32; 4]
 
 // The four words that follow the first i.
 fn group(family: Family, w: &[u32], i: usize, c: Counter, salt4: [u32; 4]) -> [u32; 4]
-    requires { ⌜ (blockWords family ≤ i) × (i ≤ length (now w)) × (i ≤ expandedWords Large) ⌝ }
+    requires { ⌜ (blockWords family ≤ i) × (i ≤ length (now w)) × (i % 4 ≡ 0) ⌝ }
     ensures { λ r. ⌜ r ≡ groupOf (blockWords family) (places family c) salt4 (take i (now (w .entry))) ⌝ }
 {
     let n = family.block_words();
@@ -87,29 +60,18 @@ fn group(family: Family, w: &[u32], i: usize, c: Counter, salt4: [u32; 4]) -> [u
     words::xored(words::xored(mixed, last(w, i)), counts(family, i, c))
 }
 
-// Puts four words in at i.
-fn put(w: &mut [u32], i: usize, x: [u32; 4])
-    requires { ⌜ i + 4 ≤ length (now w) ⌝ }
-    ensures { λ _. ⌜ (take (i + 4) (now (w .exit)) ≡ take i (now (w .entry)) ++ x) × (length (now (w .exit)) ≡ length (now (w .entry))) ⌝ }
-{
-    w[i] = x[0];
-    w[i + 1] = x[1];
-    w[i + 2] = x[2];
-    w[i + 3] = x[3];
-}
-
 // The next group, put in at i.
 fn add_group(family: Family, w: &mut [u32], i: usize, c: Counter, salt4: [u32; 4])
-    requires { ⌜ (blockWords family ≤ i) × (i + 4 ≤ length (now w)) × (length (now w) ≤ expandedWords Large) ⌝ }
+    requires { ⌜ (blockWords family ≤ i) × (i + 4 ≤ length (now w)) × (i % 4 ≡ 0) ⌝ }
     ensures { λ _. ⌜ (take (i + 4) (now (w .exit)) ≡ take i (now (w .entry)) ++ groupOf (blockWords family) (places family c) salt4 (take i (now (w .entry)))) × (length (now (w .exit)) ≡ length (now (w .entry))) ⌝ }
 {
     let x = group(family, &*w, i, c, salt4);
-    put(w, i, x);
+    quads::put(w, i, x);
 }
 
 // A run of nonlinear words from place i.
 fn nonlinear(family: Family, w: &mut [u32], i: usize, c: Counter, salt: [u32; 16])
-    requires { ⌜ (blockWords family ≤ i) × (i + blockWords family ≤ length (now w)) × (length (now w) ≤ expandedWords Large) ⌝ }
+    requires { ⌜ (blockWords family ≤ i) × (i + blockWords family ≤ length (now w)) × (i % 4 ≡ 0) ⌝ }
     ensures { λ _. ⌜ (take (i + blockWords family) (now (w .exit)) ≡ nonlinearRun (blockWords family) (saltQuads family) (places family c) salt (blockWords family / 4) (take i (now (w .entry)))) × (length (now (w .exit)) ≡ length (now (w .entry))) ⌝ }
 {
     let groups = family.block_words() / 4;
@@ -150,13 +112,13 @@ fn run(family: Family, w: &mut [u32], r: usize, c: Counter, salt: [u32; 16])
 }
 
 // All words of a block.
-pub(crate) fn expand(family: Family, w: &mut [u32], block: [u8; 128], c: Counter, salt: [u8; 64])
-    requires { ⌜ length (now w) ≡ expandedWords family ⌝ }
-    ensures { λ _. ⌜ now (w .exit) ≡ expandOf family block c (wordsOf 16 salt) ⌝ }
+pub(crate) fn expand(family: Family, w: &mut [u32], block: &[u8], c: Counter, salt: &[u8])
+    requires { ⌜ (length (now w) ≡ expandedWords family) × (length (now block) ≡ 128) × (length (now salt) ≡ 64) ⌝ }
+    ensures { λ _. ⌜ now (w .exit) ≡ expandOf family (now (block .entry)) c (wordsOf 16 (now (salt .entry))) ⌝ }
 {
     let mut s = [0u32; 16];
-    quads::load(&mut s, &salt, 16);
-    quads::load(w, &block, family.block_words());
+    quads::load(&mut s, salt, 16);
+    quads::load(w, block, family.block_words());
     let runs = family.runs();
     let mut r: usize = 0;
     while r < runs {

@@ -1,14 +1,13 @@
 // shavite3sum [M [SALT-HEX]]: digests standard input, of any length, in constant memory. It prints the M-bit digest in hex, the bytes
 // covered and the blocks compressed, or "refused" and the refusal's number. M is 256 where it is not given.
 mod arguments;
-mod input;
 mod output;
 
 use answers::Answer;
 use arguments::Asked;
 use arguments::Salt;
-use input::Status;
 use state::State;
+use streaming::Status;
 
 fn print_finished(state: State) {
     let m = state.m;
@@ -20,11 +19,11 @@ fn print_finished(state: State) {
 
 fn digest_input(state: State) {
     let mut buffer = io::large_buffer();
-    let turn = input::add_all(state, &mut buffer);
+    let turn = streaming::add_all(state, &mut buffer);
     let status = turn.status;
     match status {
         Status::End => print_finished(turn.state),
-        Status::Refused(refusal) => output::print_refusal(refusal.number()),
+        Status::Refused(refusal) => streaming::print_refusal(refusal.number()),
         _ => output::complain(b"standard input cannot be read"),
     }
 }
@@ -34,7 +33,7 @@ fn run(m: u16, salt: &[u8]) {
     let answer = step.answer;
     match answer {
         Answer::Accepted => digest_input(step.state),
-        Answer::Refused(refusal) => output::print_refusal(refusal.number()),
+        Answer::Refused(refusal) => streaming::print_refusal(refusal.number()),
     }
 }
 

@@ -9,14 +9,6 @@ pub(crate) fn complain(message: &[u8]) {
     io::write_all(STDERR_FILENO, b"\n");
 }
 
-pub(crate) fn print_refusal(number: u8) {
-    let mut line = [0u8; 32];
-    let at = text::put(&mut line, 0, b"refused ");
-    let end = text::put_decimal(&mut line, at, number as u64);
-    let size = text::put(&mut line, end, b"\n");
-    io::write_all(STDOUT_FILENO, text::first(&line, size));
-}
-
 fn print_digest(digest: &[u8], covered: u64, blocks: u64) {
     let mut line = [0u8; 256];
     let a = text::put_hex(&mut line, 0, digest);
@@ -30,7 +22,7 @@ fn print_digest(digest: &[u8], covered: u64, blocks: u64) {
 
 pub(crate) fn print_report(report: Report, bytes: &[u8], count: usize) {
     if report.number() != 0 {
-        print_refusal(report.number());
+        streaming::print_refusal(report.number());
         return;
     }
     print_digest(text::first(bytes, count), report.covered(), report.blocks());

@@ -4,10 +4,15 @@ ghost use Rattle.startup.specs.Startup.{masterOf, startOf};
 use counter::Counter;
 use family::Family;
 
+// By each family's own function: these are the second calls that keep the two families' frames apart (see `compress`).
 pub fn master_value(family: Family) -> [u32; 16]
     ensures { λ r. ⌜ r ≡ masterOf family ⌝ }
 {
-    compress::compress(family, [0u32; 16], [0u8; 128], Counter::of(0), [0u8; 64])
+    let zero = Counter::of(0);
+    match family {
+        Family::Small => compress::compress_small([0u32; 16], [0u8; 128], zero, [0u8; 64]),
+        Family::Large => compress::compress_large([0u32; 16], [0u8; 128], zero, [0u8; 64]),
+    }
 }
 
 // The starting value for m bits.

@@ -44,18 +44,17 @@ fn is_of(family: Family, m: u16) -> bool
     }
 }
 
-// Whether every byte from `at` on is zero.
+// Whether every byte from `at` on is zero: all of them are gathered, since a loop with no way out costs less than a search.
 fn zero_from(s: &[u8], at: usize) -> bool
     ensures { λ r. ⌜ r ≡ allZero (drop at (now (s .entry))) ⌝ }
 {
+    let mut any: u8 = 0;
     let mut i = at;
     while i < s.len() {
-        if s[i] != 0 {
-            return false;
-        }
+        any = any | s[i];
         i += 1;
     }
-    true
+    any == 0
 }
 
 fn wide(w: u32) -> u64
@@ -64,7 +63,7 @@ fn wide(w: u32) -> u64
     w as u64
 }
 
-// The sum of the words from `at` on, which is 0 where each of them is: with no way out of the loop it costs less than a search.
+// The sum of the words from `at` on, which is 0 where each of them is.
 fn sum_from(words: [u32; 16], at: usize) -> u64
     ensures { λ r. ⌜ r ≡ sumOf (drop at words) ⌝ }
 {

@@ -5,9 +5,10 @@ use Rattle.compress.proofs.feed_large.Tie as tie
 
 returns : tie.Need-returns
 unfolding largeOutput
-returns c = let three = c .before .before .before .before in
-    let two = three .before .before .before in
-    let one = two .before .before .before in
+returns c =
+    let three = c .before .before .before in
+    let two = three .before .before in
+    let one = two .before .before in
     rw (
       c .joined .ensures,
       c .before .xored4 .ensures,
@@ -24,16 +25,12 @@ pub feed-large-spec : {M : Type 1} → statement M
 feed-large-spec =
     tie.close
     (tie.spec
-    (λ c. search needs)
     (λ c κs. search needs)
     (λ c κs. search needs)
-    (λ c. search needs)
     (λ c κs. search needs)
     (λ c κs. search needs)
-    (λ c. search needs)
     (λ c κs. search needs)
     (λ c κs. search needs)
-    (λ c. search needs)
     (λ c κs. search needs)
     (λ c κs. search needs)
     (λ c κs. search needs)

@@ -1,34 +1,67 @@
+use mathlib.Core.Path.{sym, ap, _≡_, refl, _∙_}
+use mathlib.Core.List.{List}
+use Prim.Native.Nat.{ℕ, _-_, _*_, _/_, _%_, _≤_}
+use lib.Seq.{length-sets}
+use Rattle.compress.proofs.Rounds.{halves-placed}
 use borrow.Author.Needs.{needs}
-use mathlib.Core.Path.{_≡_, refl}
-use Prim.Native.Nat.{_-_, _*_, _≤_}
 use native.Mathlib.Omega.{arith}
+use lib.ListN.{length}
 use Rattle.compress.specs.declared.cipher.Halves.{Halves}
 use Rattle.words.specs.Words.{times}
 use Rattle.compress.specs.Cipher.{halvesRound, innerOf, smallCipher}
-use Rattle.compress.proofs.Rounds.{halves-step}
+use Rattle.compress.specs.Window.{smallWords, Holds, halvesAt}
+use Rattle.compress.proofs.Sixteen.{holds-none}
 use Rattle.compress.proofs.cipher.small.Statement.{statement}
 use Rattle.compress.proofs.cipher.small.Tie as tie
 
 abbrev Inv-loop : tie.InvT-loop
-Inv-loop w left₀ right₀ k₀ left right k =
-    (k ≤ 12) × (_≡_ {A = Halves} (record { left = left; right = right }) (times k (halvesRound (λ t. innerOf 2 w (12 * t))) (record { left = left₀; right = right₀ })))
+Inv-loop h₀ block c salt w₀ i₀ h w i =
+    (i ≤ 144) × (i % 12 ≡ 0) × (length h ≡ 16) × (length w ≡ 16) × Holds w (smallWords block c salt) i
+    × (_≡_ {A = Halves} (halvesAt i h) (times (i / 12) (halvesRound (λ k. innerOf 2 (smallWords block c salt) (12 * k))) (halvesAt 0 h₀)))
 
 abbrev μ-loop : tie.MeasureT-loop
-μ-loop w left₀ right₀ k₀ left right k = 12 - k
+μ-loop h₀ block c salt w₀ i₀ h w i = 144 - i
 
 loop-holds : tie.Need-loop-holds Inv-loop μ-loop
 unfolding times
-loop-holds c = (search needs, refl)
+loop-holds c = (search needs, refl, c .pre .0, refl, holds-none _ _, refl)
+
+slice-aggregate-inner-small : tie.Need-slice-aggregate-inner-small Inv-loop μ-loop
+slice-aggregate-inner-small c = sym (c .before .before .before .before .loop .inv .3)
+
+inner-small-requires : tie.Need-inner-small-requires Inv-loop μ-loop
+inner-small-requires c κs =
+    let l = c .before .before .before .before .before .before .loop in
+    let s = c .before .before .before .before .before .before .before in
+    (omega (arith, l .inv .2), omega arith, omega arith, l .inv .3, s .pre .1, s .pre .2, l .inv .4)
+
+quad-requires : tie.Need-quad-requires Inv-loop μ-loop
+quad-requires c κs = omega (arith, c .before .before .before .before .before .before .before .before .before .before .loop .inv .2)
+
+put-requires : tie.Need-put-requires Inv-loop μ-loop
+put-requires c κs = omega (arith, c .before .before .before .before .before .before .before .before .before .before .before .before .before .loop .inv .2)
 
 loop-again : tie.Need-loop-again Inv-loop μ-loop
-loop-again c = (omega arith, halves-step _ _ _ (c .before .before .before .loop .inv .1) (c .before .inner .ensures) (c .xored .ensures))
+loop-again c =
+    let x = c .before .before .before .before .before .before .before .inner-small in
+    let l = c .before .before .before .before .before .before .before .before .before .before .before .before .before .before .loop in
+    let i = l .i in
+    let whole : 12 * (i / 12) ≡ i = omega arith in (
+      omega arith,
+      omega arith,
+      ap (λ (u : List ℕ). length u) (c .put .ensures) ∙ length-sets (l .h) (i % 8) (c .before .before .xored .result) ∙ l .inv .2,
+      x .ensures .1,
+      x .ensures .2,
+      halves-placed _ _ (l .h) _ (x .result) (c .before .before .xored .result) i (l .inv .2) (l .inv .1) (l .inv .5) (rw whole (x .ensures .0))
+          (rw (c .before .before .xored .ensures, c .before .before .before .quad .ensures)) (c .put .ensures),
+    )
 
 returns : tie.Need-returns Inv-loop μ-loop
 unfolding smallCipher
 returns c =
-    let l = c .before in
-    let e : l .loop .k ≡ 12 = omega arith in
-    rw (e, l .before .quad2 .ensures, l .before .before .before .quad .ensures) at (l .loop .inv .1)
+    let l = c .before .loop in
+    let e : l .i ≡ 144 = omega arith in
+    rw e at (l .inv .5)
 
 pub small-spec : {M : Type 1} → statement M
 small-spec =
@@ -36,14 +69,13 @@ small-spec =
     (tie.spec
     Inv-loop
     μ-loop
-    (λ c. search needs)
-    (λ c κs. search needs)
-    (λ c. search needs)
-    (λ c κs. search needs)
     loop-holds
     (λ c. search needs)
+    slice-aggregate-inner-small
+    inner-small-requires
+    quad-requires
     (λ c κs. search needs)
-    (λ c κs. search needs)
+    put-requires
     (λ c. search needs)
     (λ c. search needs)
     loop-again

@@ -1,17 +1,16 @@
 use borrow.Author.Needs.{needs}
-use mathlib.Core.Path.{ap, _∙_}
-use mathlib.Core.List.{List, _++_}
-use Prim.Native.Nat.{ℕ}
 use denote.Ref.{now}
-use lib.ListN.{take}
+use lib.Seq.{length-sets}
+use Rattle.compress.proofs.Growing.{put-four}
 use Rattle.compress.proofs.expansion.add_group.Statement.{statement}
 use Rattle.compress.proofs.expansion.add_group.Tie as tie
 
 returns : tie.Need-returns
 returns c =
-    let p = c .before .before .put in
+    let g = c .before .before .before .before .group in
     let s = c .before .before .before .before .before .before .before in
-    (p .ensures .0 ∙ ap (λ (x : List ℕ). take (s .args .i) (now (s .args .w)) ++ x) (c .before .before .before .before .group .ensures), p .ensures .1)
+    let w = now (s .args .w) in
+    rw (c .before .before .put .ensures, ← g .ensures) (put-four w (g .result) (s .args .i) (search needs) (s .pre .1), length-sets w (s .args .i) (g .result))
 
 pub add-group-spec : {M : Type 1} → statement M
 add-group-spec = tie.close (tie.spec (λ c κs. search needs) (λ c κs. search needs) (λ c. search needs) returns)

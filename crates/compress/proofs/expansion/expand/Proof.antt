@@ -15,12 +15,12 @@ use Rattle.compress.proofs.expansion.expand.Statement.{statement}
 use Rattle.compress.proofs.expansion.expand.Tie as tie
 
 abbrev Inv-loop : tie.InvT-loop
-Inv-loop family w₀ c s runs r₀ w r =
+Inv-loop family w₀ block c salt s runs r₀ w r =
     (r ≤ runs) × (length w ≡ table.expandedWords family)
     × (take (blockWords family * (r + 1)) w ≡ times r (runOf family c s) (take (blockWords family) w₀))
 
 abbrev μ-loop : tie.MeasureT-loop
-μ-loop family w₀ c s runs r₀ w r = runs - r
+μ-loop family w₀ block c salt s runs r₀ w r = runs - r
 
 loop-holds : tie.Need-loop-holds Inv-loop μ-loop
 unfolding times
@@ -28,7 +28,7 @@ loop-holds c =
     let l = c .before .before .before in
     let s = l .before .before .before .before .before .before .before .before .before in
     let one : blockWords (s .args .family) * (0 + 1) ≡ blockWords (s .args .family) = omega arith in
-    (search needs, l .load2 .kept .0 ∙ s .pre, rw one)
+    (search needs, l .load2 .kept .0 ∙ s .pre .0, rw one)
 
 loop-again : tie.Need-loop-again Inv-loop μ-loop
 loop-again c =
@@ -44,7 +44,7 @@ load-requires-2 : tie.Need-load-requires-2 Inv-loop μ-loop
 load-requires-2 c κs =
     let s = c .before .before .before .before .before .before .before .before in
     let n = numbers (s .args .family) in
-    (omega (arith, c .block-words .ensures, s .pre, block-first (s .args .family)), omega (arith, c .block-words .ensures, n .high))
+    (omega (arith, c .block-words .ensures, s .pre .0, block-first (s .args .family)), omega (arith, c .block-words .ensures, n .high, s .pre .1))
 
 run-requires : tie.Need-run-requires Inv-loop μ-loop
 run-requires c κs =
@@ -57,12 +57,12 @@ returns c =
     let l = c .before in
     let m = l .before .before .before .before in
     let s = m .before .before .before .before .before .before .before .before .before in
-    let salt = m .before .before .before .before .before .load .ensures in
+    let salt = m .before .before .before .before .load .ensures in
     let k : l .loop .r ≡ table.runs (s .args .family) = omega (arith, l .before .runs .ensures) in
     let n = m .before .block-words in
-    runs-all (s .args .family) (s .args .c) _ (s .args .t3) (drop (n .result) (now (s .args .w))) _ (l .loop .w) (n .result) (l .loop .r) (n .ensures) k (l .loop .inv .1) (m .load2 .ensures)
+    runs-all (s .args .family) (s .args .c) _ (now (s .args .block)) (drop (n .result) (now (s .args .w))) _ (l .loop .w) (n .result) (l .loop .r) (n .ensures) k (l .loop .inv .1) (m .load2 .ensures)
     (l .loop .inv .2)
-    ∙ ap (expandOf (s .args .family) (s .args .t3) (s .args .c)) (salt ∙ append-nil _)
+    ∙ ap (expandOf (s .args .family) (now (s .args .block)) (s .args .c)) (salt ∙ append-nil _)
 
 pub expand-spec : {M : Type 1} → statement M
 expand-spec =
@@ -71,9 +71,7 @@ expand-spec =
     Inv-loop
     μ-loop
     (λ c. search needs)
-    (λ c. search needs)
     (λ c κs. search needs)
-    (λ c. search needs)
     (λ c κs. search needs)
     load-requires-2
     (λ c κs. search needs)

@@ -53,7 +53,7 @@ inside c =
 add-group-requires : tie.Need-add-group-requires Inv-loop μ-loop
 add-group-requires c κs =
     let l = c .before .before .before in
-    (omega arith, omega (arith, inside l, l .before .loop .inv .1), omega (arith, l .before .loop .inv .1))
+    (omega arith, omega (arith, inside l, l .before .loop .inv .1), omega arith)
 
 loop-again : tie.Need-loop-again Inv-loop μ-loop
 loop-again c =

@@ -1,7 +1,7 @@
 use borrow.Author.Needs.{needs}
 use native.Mathlib.Omega.{arith}
 use mathlib.Core.Path.{sym, _∙_}
-use Rattle.compress.proofs.Growing.{run-even, run-odd}
+use Rattle.compress.proofs.Growing.{run-group, run-even, run-odd}
 use Rattle.family.proofs.Numbers.{numbers, run-start}
 use Rattle.compress.proofs.expansion.run.Statement.{statement}
 use Rattle.compress.proofs.expansion.run.Tie as tie
@@ -19,7 +19,7 @@ mul-at c =
 nonlinear-requires : tie.Need-nonlinear-requires
 nonlinear-requires c κs =
     let s = c .before .before .before .before in
-    rw (c .before .before .block-words .ensures) (run-start (s .args .family) (s .args .r) (omega arith) .0, s .pre .0, s .pre .1)
+    rw (c .before .before .block-words .ensures) (run-start (s .args .family) (s .args .r) (omega arith) .0, s .pre .0, run-group (s .args .family) (s .args .r))
 
 linear-requires : tie.Need-linear-requires
 linear-requires c κs =

@@ -4,7 +4,7 @@ use mathlib.Core.List.{_++_}
 use Prim.Native.Nat.{_-_, _≤_}
 use native.Mathlib.Omega.{arith}
 use lib.ListN.{length, drop, length-set}
-use Rattle.words.specs.Words.{wordAt, wordsOf}
+use Rattle.words.specs.Words.{wordsOf}
 use Rattle.compress.proofs.Growing.{words-none, words-step}
 use Rattle.compress.proofs.quads.load.Statement.{statement}
 use Rattle.compress.proofs.quads.load.Tie as tie
@@ -19,13 +19,12 @@ loop-holds : tie.Need-loop-holds Inv-loop μ-loop
 loop-holds c = (search needs, refl, words-none (c .before .before .args .bytes .now) (c .before .before .args .w .now))
 
 loop-again : tie.Need-loop-again Inv-loop μ-loop
-unfolding wordAt
 loop-again c =
-    let at = c .before .before .before .before .before .before .loop in
-    let a = c .before .before .before .before .before .before .before .before .before .args in (
+    let at = c .before .before .loop in
+    let a = c .before .before .before .before .before .args in (
       omega arith,
       simp length-set (at .inv .1),
-      rw (c .word .ensures) (words-step (a .bytes .now) (a .w .now) (at .w) (at .j) (omega arith) (at .inv .2)),
+      rw (c .word-of .ensures) (words-step (a .bytes .now) (a .w .now) (at .w) (at .j) (omega arith) (at .inv .2)),
     )
 
 returns : tie.Need-returns Inv-loop μ-loop
@@ -40,17 +39,6 @@ load-spec =
     Inv-loop
     μ-loop
     loop-holds
-    (λ c. search needs)
-    (λ c. search needs)
-    (λ c. search needs)
-    (λ c. search needs)
-    (λ c. search needs)
-    (λ c. search needs)
-    (λ c. search needs)
-    (λ c. search needs)
-    (λ c. search needs)
-    (λ c. search needs)
-    (λ c. search needs)
     (λ c κs. search needs)
     (λ c. search needs)
     (λ c. search needs)

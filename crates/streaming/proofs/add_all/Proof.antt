@@ -2,8 +2,8 @@
 use mathlib.Core.Path.{_≡_}
 use lib.ListN.{length}
 use borrow.Author.Needs.{needs}
-use Rattle.shavite3sum.proofs.input.add_all.Statement.{statement}
-use Rattle.shavite3sum.proofs.input.add_all.Tie as tie
+use Rattle.streaming.proofs.add_all.Statement.{statement}
+use Rattle.streaming.proofs.add_all.Tie as tie
 
 abbrev Inv-loop : tie.InvT-loop
 Inv-loop buffer₀ reached₀ turns₀ buffer reached turns = length buffer ≡ length buffer₀

@@ -1,7 +1,8 @@
-// Standard input, added to a digest.
+// What the programs that digest standard input share: the input added to a running digest, and the line of a refusal.
 use answers::Answer;
 use answers::Refusal;
 use libc::STDIN_FILENO;
+use libc::STDOUT_FILENO;
 use state::State;
 
 pub enum Status {
@@ -50,7 +51,7 @@ fn add_some(state: State, buffer: &mut [u8]) -> Turn {
 
 // Reads to the end. A proved loop has to end, and nothing says that the input does: the turns are counted down from a number that no
 // run uses up.
-pub(crate) fn add_all(state: State, buffer: &mut [u8]) -> Turn {
+pub fn add_all(state: State, buffer: &mut [u8]) -> Turn {
     let mut reached = state;
     let mut turns = u64::MAX;
     while turns > 0 {
@@ -67,4 +68,12 @@ pub(crate) fn add_all(state: State, buffer: &mut [u8]) -> Turn {
         state: reached,
         status: Status::Failed,
     }
+}
+
+pub fn print_refusal(number: u8) {
+    let mut line = [0u8; 32];
+    let at = text::put(&mut line, 0, b"refused ");
+    let end = text::put_decimal(&mut line, at, number as u64);
+    let size = text::put(&mut line, end, b"\n");
+    io::write_all(STDOUT_FILENO, text::first(&line, size));
 }
