@@ -1,5 +1,6 @@
 #!/usr/bin/env bash
-# All tests. The last line is rt ci's 'N passed, M failed'; whatever comes before it stops the script when it fails.
+# All tests; whatever fails stops the script. The last line, 'N passed, 0 failed', counts the parts of rt ci and the runs of built programs behind it, and
+# is written only where rt ci's own last line said so.
 set -euo pipefail
 cd "$(dirname "$0")/.."
 command -v rustc >/dev/null || { apt-get update -qq && apt-get install -y -qq rustc; } >/dev/null
@@ -42,8 +43,13 @@ mapfile -t words <crates/shavite3sum/args
 mkdir "$made/samples"
 "$made/second" samples "$made/samples"
 diff -r "$made/samples" samples
-diff -r "$made/samples" crates/bootchecks/data
-diff <(sort crates/bootchecks/args) <(cd samples && ls | sort)
+mkdir "$made/logs" "$made/agrees"
+cp samples/*.log "$made/logs"
+diff -r "$made/logs" crates/bootchecks/data
+diff <(sort crates/bootchecks/args) <(ls "$made/logs" | sort)
+cp samples/agrees.registers samples/agrees.events "$made/agrees"
+diff -r "$made/agrees" crates/chimbersu/data
+cmp samples/agrees.log crates/chimbersu/stdout
 cmp samples/smallest.log crates/bootcheck/stdin
 "$made/second" print <samples/smallest.log | cmp - crates/bootcheck/stdout
 while read -r name; do
@@ -56,13 +62,67 @@ status=0
 rt ci 2>&1 | tee "$made/ci" || status=$?
 passed=$(sed -n '$s/^\([0-9]*\) passed, 0 failed$/\1/p' "$made/ci")
 have passed "${passed:-0}"
+[ "$status" = 0 ]
+runs=0
+one_more() { runs=$((runs + 1)); }
 
 # The first stage hands over what the second program does, also where the input ends at a block or a read, before it or behind it.
 for size in 0 1 63 64 65 4095 4096 4097; do
     head -c "$size" crates/first_stage/stdin >"$made/image"
     "$made/second" stage <"$made/image" >"$made/form"
     bin/run first_stage <"$made/image" | cmp - "$made/form"
+    one_more
 done
+
+# A log is written, or refused, as the second program does it.
+mkdir "$made/parts"
+"$made/second" parts "$made/parts"
+top=$PWD
+while read -r -a words; do
+    (cd "$made/parts" && "$made/second" write "${words[@]}" >"$made/log" 2>"$made/said") || [ -s "$made/said" ]
+    (cd "$made/parts" && "$top/bin/run" chimbersu write "${words[@]}" >"$made/out" 2>"$made/err")
+    cmp "$made/log" "$made/out"
+    cmp "$made/said" "$made/err"
+    one_more
+done <"$made/parts/runs"
+
+# No words, or others, are answered by the help or a message on standard error, and by nothing on standard output; so are salts longer than any buffer.
+said() {
+    want=$1
+    shift
+    bin/run chimbersu "$@" >"$made/out" 2>"$made/err"
+    [ ! -s "$made/out" ]
+    grep -q "$want" "$made/err"
+    one_more
+}
+parts=(samples/agrees.registers samples/agrees.events)
+said '^usage: chimbersu write '
+said '^usage: chimbersu write ' help
+said '^usage: chimbersu write ' writes "${parts[@]}"
+said '^usage: chimbersu write ' write
+said '^usage: chimbersu write ' write "${parts[0]}"
+said '^usage: chimbersu write ' write "${parts[@]}" "${parts[1]}"
+said '^usage: chimbersu write ' write "${parts[@]}" --claim
+said '^usage: chimbersu write ' write "${parts[@]}" --claims --claims
+said '^usage: chimbersu write ' write "${parts[@]}" --salt
+said '^usage: chimbersu write ' write --salt 00 "${parts[@]}" --salt 00
+said '^chimbersu: the salt is not hex digits' write "${parts[@]}" --salt 0
+said '^chimbersu: the salt is not hex digits' write "${parts[@]}" --salt --claims
+said '^refused 2$' write "${parts[@]}" --salt "$(head -c 130 /dev/zero | tr '\0' 0)"
+said '^refused 2$' write "${parts[@]}" --salt "$(head -c 5000 /dev/zero | tr '\0' 0)"
+said '^samples/none: No such file' write "${parts[0]}" samples/none
+said '^samples: Is a directory' write samples "${parts[1]}"
+
+# An empty word is the empty salt.
+bin/run chimbersu write "${parts[@]}" --salt '' --claims | cmp - samples/agrees.log
+one_more
+
+# README's line writes a log and checks it.
+line=$(sed -n 's/^    \(bin\/run chimbersu write .* | bin\/run bootcheck\)$/\1/p' README.md)
+[ -n "$line" ]
+"$made/second" print <samples/agrees.log >"$made/print"
+bash -euo pipefail -c "$line" | cmp - "$made/print"
+one_more
 
 # The small family's compression stands apart from the large one's words in every program but the one that hashes nothing, and needs little stack.
 rustc -O --edition 2021 tests/stack.rs -o "$made/stack"
@@ -71,6 +131,7 @@ for main in crates/*/src/main.rt; do
     [ "$program" = fips_round ] && continue
     echo "$program"
     "$objdump" -d --no-show-raw-insn "target/bin/$program" | "$made/stack" compress::cipher::small "$(expected stack)"
+    one_more
 done
-tail -n 1 "$made/ci"
-exit "$status"
+have runs "$runs"
+echo "$((passed + runs)) passed, 0 failed"

@@ -2,9 +2,10 @@
 
 use crate::digest::State;
 use crate::hash::Family;
-use crate::lines::{hex, state_text};
+use crate::lines::{hex, state_text, write_text};
 use crate::random::Random;
-use crate::{cases_log, cases_message, cases_saved, cases_state};
+use crate::write::Lent;
+use crate::{cases_log, cases_message, cases_saved, cases_state, cases_write};
 
 pub const FAMILIES: [Family; 2] = [Family::Small, Family::Large];
 
@@ -70,6 +71,12 @@ impl Writer {
         self.line(&format!("load {}", hex(form)));
     }
 
+    /// A log written into a lent buffer of random bytes.
+    pub fn write(&mut self, lent: &Lent, buffer_size: usize) {
+        let buffer = self.random.bytes(buffer_size);
+        self.line(&write_text(lent, &buffer));
+    }
+
     /// An allowed digest length of the family.
     pub fn m_of(&mut self, family: Family) -> u16 {
         let step = 8 * (1 + self.random.below(32) as u16);
@@ -97,6 +104,7 @@ pub fn text() -> String {
     cases_log::write(&mut w);
     cases_saved::write(&mut w);
     unreadable(&mut w);
+    cases_write::write(&mut w);
     w.text
 }
 

@@ -4,9 +4,10 @@ use crate::digest::{add, begin, finish, one_shot, State};
 use crate::hash::Family;
 use crate::log::check;
 use crate::saved::{load, save};
+use crate::write::{write_log, Lent};
 
-/// Most bytes of a line, its end not counted.
-pub const LINE_MOST: usize = 131_072;
+/// Most bytes of a line, its end not counted: 1,024 events and a buffer for the longest log fit in.
+pub const LINE_MOST: usize = 196_608;
 /// Most bytes that a byte string stands for.
 const STRING_MOST: usize = 40_000;
 
@@ -23,6 +24,13 @@ pub fn state_text(s: &State) -> String {
     let chain: String = s.chain.iter().map(|w| format!("{w:08x}")).collect();
     let (salt, held) = (hex(&s.salt), hex(&s.held));
     format!("{family} {} {salt} {chain} {} {} {held}", s.m, s.covered, s.compressed)
+}
+
+/// The line that has a log written.
+pub fn write_text(lent: &Lent, buffer: &[u8]) -> String {
+    let (salt, registers, events) = (hex(&lent.salt), hex(&lent.registers), hex(&lent.events));
+    let claims = if lent.claims { 1 } else { 0 };
+    format!("write {salt} {registers} {events} {claims} {}", hex(buffer))
 }
 
 /// The answers to a whole case file.
@@ -97,6 +105,22 @@ fn answer(line: &[u8], state: &mut State) -> Option<String> {
             *state = made;
             Some(format!("load {number} {}", state_text(state)))
         }
+        ["write", salt, registers, events, claims, buffer] => {
+            let (salt, registers, events) = (bytes(salt)?, bytes(registers)?, bytes(events)?);
+            let (claims, mut buffer) = (wish(claims)?, bytes(buffer)?);
+            let lent = Lent { salt, registers, events, claims };
+            let (number, length) = write_log(&lent, &mut buffer);
+            Some(format!("write {number} {length} {}", hex(&buffer)))
+        }
+        _ => None,
+    }
+}
+
+/// Whether claims are asked for: the numbers 0 and 1.
+fn wish(word: &str) -> Option<bool> {
+    match number64(word)? {
+        0 => Some(false),
+        1 => Some(true),
         _ => None,
     }
 }

@@ -1,10 +1,12 @@
-//! A second, independent program for the SHAvite-3 digest, its saved states and the boot log check.
+//! A second, independent program for the SHAvite-3 digest, its saved states, the boot log check and
+//! the logger.
 
 mod cases;
 mod cases_log;
 mod cases_message;
 mod cases_saved;
 mod cases_state;
+mod cases_write;
 mod digest;
 mod hash;
 mod lines;
@@ -12,17 +14,22 @@ mod log;
 mod parts;
 mod printed;
 mod random;
+mod runs;
 mod samples;
 mod saved;
 mod selftest;
+mod selftest_write;
 mod stage;
 mod sum;
+mod write;
 
 use std::io::{Error, ErrorKind, Read, Write};
 use std::process::ExitCode;
+use write::Outcome;
 
 const USAGE: &str = "usage: selftest | cases | expect | samples DIR | print | printed | ruled | \
-    sum [M [SALT-HEX]] | image | stage";
+    sum [M [SALT-HEX]] | image | stage | write REGISTERS EVENTS [--salt HEX] [--claims] | \
+    parts DIR";
 
 fn main() -> ExitCode {
     // `args` would panic on a word that is not text, and the exit code would not be 1.
@@ -70,6 +77,15 @@ fn obey(words: &[&str]) -> std::io::Result<bool> {
         }
         ["image"] => put(&stage::image()).map(|()| true),
         ["stage"] => hear(u64::MAX).and_then(|input| put(&stage::output(&input))).map(|()| true),
+        ["write", ref rest @ ..] => match write::outcome(rest, write::front) {
+            Outcome::Log(log) => put(&log).map(|()| true),
+            Outcome::Refused(number) => {
+                eprintln!("refused {number}");
+                Ok(false)
+            }
+            Outcome::Failed(why) => Err(unreadable(&why)),
+        },
+        ["parts", folder] => runs::write(folder.as_ref()).map(|()| true),
         _ => {
             eprintln!("{USAGE}");
             Ok(false)

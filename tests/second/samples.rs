@@ -1,7 +1,7 @@
-//! Sample logs.
+//! Sample logs, and the parts that one of them is written from.
 
 use crate::log::LONGEST;
-use crate::parts::{counted, Parts};
+use crate::parts::{contents, counted, Parts};
 use crate::random::Random;
 use std::path::Path;
 
@@ -54,9 +54,21 @@ pub fn all() -> Vec<(&'static str, Vec<u8>)> {
     ]
 }
 
+/// One of them.
+pub fn named(name: &str) -> Vec<u8> {
+    let found = all().into_iter().find(|(other, _)| *other == name);
+    found.expect("a sample's name").1
+}
+
+/// Name and contents of the files that agrees.log is written from.
+pub fn lent_files() -> [(&'static str, Vec<u8>); 2] {
+    let [_, registers, events, _] = contents(&named("agrees.log"));
+    [("agrees.registers", registers), ("agrees.events", events)]
+}
+
 pub fn write(folder: &Path) -> std::io::Result<()> {
     std::fs::create_dir_all(folder)?;
-    for (name, bytes) in all() {
+    for (name, bytes) in all().into_iter().chain(lent_files()) {
         std::fs::write(folder.join(name), bytes)?;
     }
     Ok(())

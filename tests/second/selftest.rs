@@ -9,6 +9,7 @@ use crate::log::printed_check;
 use crate::printed::{salt_byte, Message, What, TABLE};
 use crate::samples::smallest;
 use crate::saved::{load, save};
+use crate::selftest_write::write_values;
 use crate::stage;
 use crate::sum;
 
@@ -90,13 +91,13 @@ const EMPTY_STAGE: [&str; 5] = [
 const STAGE_SIZES: [(usize, usize); 6] =
     [(1, 87), (63, 149), (64, 86), (65, 87), (128, 86), (10_037, 139)];
 
-struct Tally {
+pub struct Tally {
     met: usize,
     missed: Vec<String>,
 }
 
 impl Tally {
-    fn value(&mut self, label: &str, right: bool) {
+    pub fn value(&mut self, label: &str, right: bool) {
         if right {
             self.met += 1;
         } else {
@@ -132,6 +133,7 @@ pub fn run() -> (String, bool) {
     sum_values(&mut tally);
     saved_values(&mut tally);
     stage_values(&mut tally);
+    write_values(&mut tally);
     let mut text: String =
         tally.missed.iter().map(|label| format!("selftest: not met: {label}\n")).collect();
     text += &format!("selftest: {} values met\n", tally.met);

@@ -22,7 +22,7 @@ pub fn asked(words: &[&str]) -> Result<(u16, Vec<u8>), &'static str> {
 
 /// Not the byte string of a case file: here both cases of letters count, and the empty word is the
 /// empty salt.
-fn salt_bytes(word: &str) -> Option<Vec<u8>> {
+pub fn salt_bytes(word: &str) -> Option<Vec<u8>> {
     let digits: Option<Vec<u8>> = word.chars().map(|c| Some(c.to_digit(16)? as u8)).collect();
     let digits = digits?;
     if digits.len() % 2 == 1 {

@@ -11,6 +11,7 @@ pub use reading::Layout;
 pub use reading::Reading;
 pub use refusal::Answer;
 pub use refusal::Refusal;
+pub use refusal::also;
 pub use report::Length;
 pub use report::Report;
 pub use written::Written;

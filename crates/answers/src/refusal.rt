@@ -1,6 +1,6 @@
 // Every refusal of the project, and the answer of a call that hands back a state.
 ghost use mathlib.Core.Path.{_≡_};
-ghost use Rattle.answers.specs.Refusal.{refusalNumber, answerNumber};
+ghost use Rattle.answers.specs.Refusal.{refusalNumber, answerNumber, firstOf};
 
 pub enum Refusal {
     DigestLength,
@@ -49,5 +49,15 @@ impl Answer {
             Answer::Accepted => 0,
             Answer::Refused(refusal) => refusal.number(),
         }
+    }
+}
+
+// The first refusal of two answers.
+pub fn also(first: Answer, next: Answer) -> Answer
+    ensures { λ r. ⌜ r ≡ firstOf first next ⌝ }
+{
+    match first {
+        Answer::Accepted => next,
+        Answer::Refused(refusal) => Answer::Refused(refusal),
     }
 }

@@ -2,11 +2,11 @@
 use mathlib.Core.Path.{_≡_, refl, ap, sym, _∙_}
 use mathlib.Core.Bool.{true, not}
 use mathlib.Core.List.{List, [], _∷_, _++_, append-assoc, append-nil}
-use Prim.Native.Nat.{ℕ, zero, suc, _+_, _-_, _*_, _/_, _%_, _≤_, _<_}
+use Prim.Native.Nat.{ℕ, zero, suc, _+_, _*_, _/_, _%_, _≤_, _<_}
 use native.Mathlib.Omega.{arith}
 use native.Mathlib.Nat.{div-eq-of-lt-le}
 use lib.Dec.{ltb}
-use lib.ListN.{length, take, drop, length-append, length-drop}
+use lib.ListN.{length, take, drop}
 use lib.Seq.{take-at}
 use Rattle.family.specs.declared.Family.{Family}
 use Rattle.family.specs.declared.Family.the-variants.{Small, Large}
@@ -17,13 +17,14 @@ use Rattle.fields.specs.Fields.{le, numberAt, bytesOf}
 use Rattle.state.specs.declared.State.{State}
 use Rattle.state.specs.State.{consistentOf}
 use Rattle.digest.specs.declared.calls.Step.{Step}
-use Rattle.saved_form.specs.Form.{saltWords, section, parameterSection, saltSection, chainSection, coveredSection, heldSection, formOf, saltPlace, chainPlace, coveredPlace, heldPlace, heldStart}
+use Rattle.saved_form.specs.Form.{saltWords, parameterSection, saltSection, chainSection, coveredSection, heldSection, formOf, saltPlace, chainPlace, coveredPlace, heldPlace, heldStart}
 use Rattle.loading.specs.Reading.{familyIn, coveredIn, restIn, wordsIn, stateIn}
 use Rattle.saving.specs.Calls.{saveAnswer, saveOf, saveBuffer}
 use Rattle.loading.specs.Calls.{loadAnswer, loadOf}
 use Rattle.carried.specs.Stored.{Stored}
 use Rattle.carried.specs.Moves.{formLeft}
 use Rattle.fields.proofs.Numbers.{le-length}
+use Rattle.fields.proofs.There.{There, number-there, behind, there}
 use Rattle.family.proofs.Sizes.{block-max, words-max, salt-max}
 use Rattle.state.proofs.Filling.{fill-zeros}
 use Rattle.state.proofs.Soundness.{Sound, sound}
@@ -31,26 +32,8 @@ use Rattle.digest.proofs.Answers.{m-max}
 use Rattle.digest.proofs.Shot.{passed}
 use Rattle.word_bounds.proofs.Below.{Below}
 use Rattle.saved_form.proofs.Lengths.{parameters-size, salt-size, words-count, chain-size, rest-below, held-size, form-length}
-use Rattle.carried.proofs.Judging.{Section, Whole, form-passes}
-use Rattle.carried.proofs.Words.{number-there, words-there, behind}
-
--- ---- a section that stands at place i, in front of ys
-record There (form : List ℕ) (i count size : ℕ) (contents ys : List ℕ) : Type 0 where
-  section : Section form i count size
-  contents-at : drop (i + 2) form ≡ contents ++ ys
-  next : drop (i + 2 + size) form ≡ ys
-
-there : (form : List ℕ) (i count size : ℕ) (contents ys : List ℕ) → count < 65536 → length contents ≡ size → drop i form ≡ section count contents ++ ys
-    → There form i count size contents ys
-there form i count size contents ys small e at =
-    let g : drop i form ≡ le 2 count ++ (contents ++ ys) = at ∙ append-assoc (le 2 count) contents ys in
-    let c : drop (i + 2) form ≡ contents ++ ys = behind form i 2 (le 2 count) (contents ++ ys) (le-length 2 count) g in
-    let l : length form - i ≡ 2 + (length contents + length ys) = sym (length-drop i form) ∙ rw (g, length-append, length-append, le-length 2 count) in
-    record {
-      section = record { counted = number-there 2 count form i (contents ++ ys) small g; fits = omega arith };
-      contents-at = c;
-      next = behind form (i + 2) size contents ys e c;
-    }
+use Rattle.carried.proofs.Judging.{Whole, form-passes}
+use Rattle.carried.proofs.Words.{words-there}
 
 -- the first words of a list of words
 take-below : (n : ℕ) (xs : List ℕ) → Below xs → Below (take n xs)

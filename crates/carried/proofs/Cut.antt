@@ -18,7 +18,8 @@ use Rattle.state.specs.State.{consistentOf}
 use Rattle.saved_form.specs.Form.{saltWords, saltPlace, chainPlace, coveredPlace, heldPlace, heldStart}
 use Rattle.loading.specs.Reading.{familyIn, coveredIn, restIn, stateIn, sectionTests, formTests}
 use Rattle.loading.specs.Calls.{loadAnswer}
-use Rattle.carried.proofs.Judging.{Section, Whole, section-passes, tests-joined}
+use Rattle.fields.proofs.There.{Section}
+use Rattle.carried.proofs.Judging.{Whole, section-passes, tests-joined}
 use Rattle.carried.proofs.Exact.{accepted}
 
 -- a section that is cut: either its count is, or its count fits and its contents are

@@ -1,7 +1,7 @@
 -- An accepted form is the form of the state that is read from it, so each state has one form; and what a refusal hands back.
 use mathlib.Core.Path.{_≡_, refl, ap, sym, _∙_}
 use mathlib.Core.Bool.{Bool, true, false, not, cond}
-use mathlib.Core.List.{List, [], _∷_, _++_, append-assoc, append-nil}
+use mathlib.Core.List.{List, [], _∷_, _++_, append-nil}
 use Prim.Native.Nat.{ℕ, _+_, _*_, _/_, _≤_}
 use native.Mathlib.Omega.{arith}
 use lib.Dec.{eqb}
@@ -17,15 +17,15 @@ use Rattle.answers.specs.declared.refusal.Answer.the-variants.{Accepted, Refuse
 use Rattle.fields.specs.Fields.{le, numberAt}
 use Rattle.state.specs.State.{consistentOf, zeroState}
 use Rattle.state.specs.Bytes.{fill}
-use Rattle.saved_form.specs.Form.{saltWords, section, parameterSection, saltSection, chainSection, coveredSection, heldSection, formOf, saltPlace, chainPlace, coveredPlace, heldPlace, heldStart}
+use Rattle.saved_form.specs.Form.{saltWords, parameterSection, saltSection, chainSection, coveredSection, heldSection, formOf, saltPlace, chainPlace, coveredPlace, heldPlace, heldStart}
 use Rattle.loading.specs.Reading.{familyIn, coveredIn, restIn, wordsIn, stateIn}
 use Rattle.loading.specs.Calls.{loadAnswer, loadOf}
 use Rattle.fields.proofs.Numbers.{bytes, number-spelled}
-use Rattle.fields.proofs.Parts as parts
 use Rattle.fields.proofs.Parts.{part-length}
 use Rattle.state.proofs.Filling.{fill-take}
 use Rattle.answers.proofs.Judged.{test-passed}
-use Rattle.carried.proofs.Judging.{Section, Whole, form-passed}
+use Rattle.fields.proofs.There.{section-join}
+use Rattle.carried.proofs.Judging.{Whole, form-passed}
 use Rattle.loading.proofs.Numbers.{words-length}
 use Rattle.carried.proofs.Words.{words-spelled}
 
@@ -39,10 +39,6 @@ family-spelled form h = by (eqb (numberAt form 2) 0) refl
     by false e = omega (arith, eqb-false (numberAt form 2) 0 e)
 
 module _ (form : List ℕ) (b : bytes form) where
-  -- a section and what stands behind it
-  section-join : (i count size : ℕ) → Section form i count size → section count (take size (drop (i + 2) form)) ++ drop (i + 2 + size) form ≡ drop i form
-  section-join i count size s = rw append-assoc (parts.section-join form b i size count (sym (s .counted)) (s .fits))
-
   module _ (w : Whole form (familyIn form) (restIn form)) where
     abbrev f : Family
     f = familyIn form
@@ -56,13 +52,13 @@ module _ (form : List ℕ) (b : bytes form) where
         let e : le 2 (numberAt form 2) ++ le 2 (numberAt form 4) ≡ take 4 (drop 2 form) =
         rw (number-spelled form b 2 2 (omega (arith, w .parameters .fits)), number-spelled form b 2 4 (omega (arith, w .parameters .fits)), ← drop-drop 2 2 form)
         (sym (take-add 2 2 (drop 2 form))) in
-        rw (family-spelled form (w .family), e) (section-join 0 2 4 (w .parameters))
+        rw (family-spelled form (w .family), e) (section-join form b 0 2 4 (w .parameters))
 
     salt-join : saltSection f (fill 64 (take (saltBytes f) (drop (saltPlace + 2) form))) ++ drop (chainPlace f) form ≡ drop saltPlace form
     unfolding saltSection
     salt-join =
         rw (fill-take 64 (take (saltBytes f) (drop (saltPlace + 2) form)) (saltBytes f) (part-length form (saltPlace + 2) (saltBytes f) (w .salt .fits)))
-        (section-join saltPlace (saltWords f) (saltBytes f) (w .salt))
+        (section-join form b saltPlace (saltWords f) (saltBytes f) (w .salt))
 
     chain-join : chainSection f (fill 16 (wordsIn (chainWords f) form (chainPlace f + 2))) ++ drop (coveredPlace f) form ≡ drop (chainPlace f) form
     unfolding chainSection
@@ -70,18 +66,18 @@ module _ (form : List ℕ) (b : bytes form) where
         rw (
           fill-take 16 (wordsIn (chainWords f) form (chainPlace f + 2)) (chainWords f) (words-length (chainWords f) form (chainPlace f + 2)),
           words-spelled (chainWords f) form (chainPlace f + 2) b (w .chain .fits),
-        ) (section-join (chainPlace f) (chainWords f) (4 * chainWords f) (w .chain))
+        ) (section-join form b (chainPlace f) (chainWords f) (4 * chainWords f) (w .chain))
 
     covered-join : coveredSection (coveredIn form) ++ drop (heldPlace f) form ≡ drop (coveredPlace f) form
     unfolding coveredSection coveredIn
-    covered-join = rw (number-spelled form b 8 (coveredPlace f + 2) (w .covered .fits)) (section-join (coveredPlace f) 1 8 (w .covered))
+    covered-join = rw (number-spelled form b 8 (coveredPlace f + 2) (w .covered .fits)) (section-join form b (coveredPlace f) 1 8 (w .covered))
 
     held-join : heldSection rest (fill 128 (take rest (drop (heldStart f) form))) ≡ drop (heldPlace f) form
     unfolding heldSection
     held-join =
         let none : drop (heldStart f + rest) form ≡ [] = drop-of-length-le form (w .end) in
         rw (fill-take 128 (take rest (drop (heldStart f) form)) rest (part-length form (heldStart f) rest (w .held .fits)))
-        (sym (append-nil _) ∙ rw none at (section-join (heldPlace f) rest rest (w .held)))
+        (sym (append-nil _) ∙ rw none at (section-join form b (heldPlace f) rest rest (w .held)))
 
     state-form : formOf (stateIn form) ≡ form
     unfolding formOf stateIn restIn

@@ -17,11 +17,7 @@ use Rattle.family.specs.declared.Family.{Family}
 use Rattle.family.specs.Family.{chainWords, saltBytes}
 use Rattle.saved_form.specs.Form.{saltWords, saltPlace, chainPlace, coveredPlace, heldPlace, heldStart}
 use Rattle.loading.specs.Reading.{familyIn, restIn, sectionTests, familyTests, endTests, formTests}
-
--- what an accepted form says of the section at place i
-pub record Section (form : List ℕ) (i count size : ℕ) : Type 0 where
-  pub counted : numberAt form i ≡ count
-  pub fits : i + 2 + size ≤ length form
+use Rattle.fields.proofs.There.{Section}
 
 module _ (form : List ℕ) (i count size : ℕ) (ts : List (Bool × Refusal)) where
   pub section-passes : Section form i count size → judged (sectionTests form i count size ++ ts) ≡ judged ts

@@ -1,32 +1,15 @@
 -- Numbers and words that stand behind a place of a list, read and spelled.
-use mathlib.Core.Path.{_≡_, refl, ap, ap₂, sym, _∙_}
+use mathlib.Core.Path.{_≡_, refl, ap₂, _∙_}
 use mathlib.Core.List.{List, [], _∷_, _++_, append-assoc}
-use Prim.Native.Nat.{ℕ, zero, suc, _+_, _*_, _^_, _≤_, _<_}
+use Prim.Native.Nat.{ℕ, zero, suc, _+_, _*_, _≤_}
 use native.Mathlib.Omega.{arith}
 use lib.ListN.{length, take, drop}
-use lib.Seq.{drop-at, drop-drop, getD-drop, take-add}
-use Rattle.fields.specs.Fields.{le, numberIn, bytesOf}
-use Rattle.fields.proofs.Numbers.{bytes, le-length, number-read, number-spelled}
+use lib.Seq.{drop-drop, take-add}
+use Rattle.fields.specs.Fields.{le, bytesOf}
+use Rattle.fields.proofs.Numbers.{bytes, le-length, number-spelled}
+use Rattle.fields.proofs.There.{number-there, behind}
 use Rattle.loading.specs.Reading.{wordsIn}
 use Rattle.word_bounds.proofs.Below.{Below}
-
--- a number at a place of what stands behind place i
-number-dropped : (k : ℕ) (l : List ℕ) (i j : ℕ) → numberIn k (drop i l) j ≡ numberIn k l (i + j)
-unfolding numberIn
-number-dropped zero l i j = refl
-number-dropped (suc k) l i j =
-    let e : i + (j + 1) ≡ i + j + 1 = omega arith in
-    rw (getD-drop i l j 0, number-dropped k l i (j + 1), e)
-
--- a number that stands behind place i is read there
-pub number-there : (k n : ℕ) (l : List ℕ) (i : ℕ) (ys : List ℕ) → n < 256 ^ k → drop i l ≡ le k n ++ ys → numberIn k l i ≡ n
-number-there k n l i ys h e =
-    let z : i + 0 ≡ i = omega arith in
-    ap (numberIn k l) (sym z) ∙ sym (number-dropped k l i 0) ∙ rw e (number-read k n h ys)
-
--- what stands behind xs
-pub behind : (l : List ℕ) (i n : ℕ) (xs ys : List ℕ) → length xs ≡ n → drop i l ≡ xs ++ ys → drop (i + n) l ≡ ys
-behind l i n xs ys h e = sym (drop-drop n i l) ∙ rw e (drop-at xs ys n h)
 
 -- words that stand behind place i are read there
 pub words-there : (ws l : List ℕ) (i : ℕ) (ys : List ℕ) → Below ws → drop i l ≡ bytesOf ws ++ ys → wordsIn (length ws) l i ≡ ws

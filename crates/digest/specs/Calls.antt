@@ -1,9 +1,9 @@
 -- The four calls, as total functions of their inputs: each with its tests in document 01's order, its result, and what its lent buffer holds afterwards.
 use mathlib.Core.Bool.{Bool, not, _||_}
-use mathlib.Core.List.{List, [], _∷_, _++_}
+use mathlib.Core.List.{List, [], _∷_}
 use Prim.Native.Nat.{ℕ, _+_, _/_}
 use lib.Dec.{eqb, ltb}
-use lib.ListN.{length, take, drop}
+use lib.ListN.{length, take}
 use Rattle.family.specs.declared.Family.{Family}
 use Rattle.family.specs.Family.{familyOf, saltBytes}
 use Rattle.answers.specs.declared.refusal.Refusal.the-variants.{DigestLength, SaltSize, MessageLimit, StateInconsistent, BufferShort}
@@ -14,6 +14,7 @@ use Rattle.answers.specs.declared.report.Report.{Report}
 use Rattle.digest.specs.declared.calls.Finished.{Finished}
 use Rattle.answers.specs.Refusal.{judged, ifAccepted}
 use Rattle.answers.specs.Report.{reported}
+use Rattle.answers.specs.Written.{written}
 use Rattle.fields.specs.Fields.{bytesOf}
 use Rattle.state.specs.Bytes.{fill}
 use Rattle.digest.specs.Blocks.{lastBlocks, blocksOf, chainOver, digestOf}
@@ -44,10 +45,6 @@ closing s = lastBlocks (s .family) (s .m) (s .covered .0) (heldOf s)
 
 unfoldable pub stateDigest : State → List ℕ
 stateDigest s = take (s .m / 8) (bytesOf (chainOver (s .family) (s .salt) (closing s) (s .chain)))
-
--- the first bytes of a buffer replaced by what a call made, and no others
-abbrev pub written : Answer → List ℕ → List ℕ → List ℕ
-written a made out = ifAccepted a (made ++ drop (length made) out) out
 
 -- finish: 4, 5. It hands back the state that it was given.
 unfoldable pub finishAnswer : State → List ℕ → Answer

@@ -8,7 +8,7 @@ use lib.ListN.{length}
 use native.Mathlib.Omega.{arith}
 use native.Mathlib.Decide.{decLt}
 use Rattle.answers.specs.declared.refusal.Refusal.{Refusal}
-use Rattle.answers.specs.declared.refusal.Refusal.the-variants.{StateInconsistent, LogExtent, SectionCount}
+use Rattle.answers.specs.declared.refusal.Refusal.the-variants.{SaltSize, StateInconsistent, BufferShort, LogExtent, SectionCount, EventRegister}
 use Rattle.answers.specs.declared.refusal.Answer.{Answer}
 use Rattle.answers.specs.declared.refusal.Answer.the-variants as answer
 use Rattle.answers.specs.declared.reading.Layout.{Layout}
@@ -21,10 +21,13 @@ use Rattle.answers.specs.Written.{writtenNumber, writtenIf}
 use Rattle.family.specs.Family.{chainWords, saltBytes}
 use Rattle.saved_form.specs.Form.{saltWords, saltPlace, chainPlace, coveredPlace, heldPlace}
 use Rattle.loading.specs.Reading.{familyIn, restIn, sectionTests, familyTests, endTests, formTests}
+use Rattle.bootlog.specs.Replay.{eventList}
+use Rattle.logger.specs.Write.{registersIn, eventsIn, startsFit, eventsFit, foreign, partsAnswer, logFor, writeAnswer}
+use Rattle.answers.proofs.Judged.{judged-first}
 use Rattle.layout.specs.declared.Place.{Place}
 use Rattle.layout.specs.declared.Place.the-variants as place
 use Rattle.fields.specs.Fields.{numberAt}
-use Rattle.layout.specs.Layout.{endIf, sectionEnd, eventsEnd, andThen, reads, saltEnd, registersEnd, eventSectionEnd, claimsEnd, layoutAt, readingOf}
+use Rattle.layout.specs.Layout.{saltCount, endIf, sectionEnd, eventsEnd, andThen, reads, saltEnd, registersEnd, eventSectionEnd, claimsEnd, layoutAt, readingOf}
 use Rattle.layout.proofs.Sections.{event-none, event-short, event-next, event-foreign}
 
 -- ---- a call's tests
@@ -63,6 +66,22 @@ written-number (answer.Refused r) n = refl
 pub reported-number : (a : Answer) (n k : ℕ) → reportNumber (reported a n k) ≡ answerNumber a
 reported-number answer.Accepted n k = refl
 reported-number (answer.Refused r) n k = refl
+
+-- ---- a log's writing
+pub write-listed : (salt starts events : List ℕ) (wish : Bool) (room : ℕ) → List·Memᴰ (answerNumber (writeAnswer salt starts events wish room)) (0 ∷ 2 ∷ 7 ∷ 8 ∷ 5 ∷ [])
+unfolding writeAnswer partsAnswer
+write-listed salt starts events wish room =
+    let l : List ℕ = 2 ∷ 7 ∷ 8 ∷ 5 ∷ [] in
+    let ts : List (Bool × Refusal) =
+    (not (saltCount (length salt)), SaltSize) ∷ (not (startsFit starts), SectionCount) ∷ (not (eventsFit events), SectionCount)
+    ∷ (foreign (registersIn starts) (eventList (eventsIn events) events), EventRegister) ∷ [] in
+    let us : List (Bool × Refusal) = (ltb room (length (logFor salt starts events wish)), BufferShort) ∷ [] in
+    let seven : List·Memᴰ 7 l = List·Memᴰ·tail (List·Memᴰ·head refl) in
+    let eight : List·Memᴰ 8 l = List·Memᴰ·tail (List·Memᴰ·tail (List·Memᴰ·head refl)) in
+    let five : List·Memᴰ 5 l = List·Memᴰ·tail (List·Memᴰ·tail (List·Memᴰ·tail (List·Memᴰ·head refl))) in
+    let parts : Among l ts = more (List·Memᴰ·head refl) (more seven (more seven (more eight none))) in
+    let room : Among l us = more five none in
+    rw (← judged-first ts us) (judged-among (both-among parts room))
 
 -- ---- a log's reading
 abbrev pub logNumbers : List ℕ

@@ -33,10 +33,11 @@ use Rattle.loading.specs.Calls.{loadAnswer, loadOf}
 use Rattle.layout.specs.Layout.{readingOf}
 use Rattle.bootlog.specs.Check.{checkedAt, checkOf, checkBuffer}
 use Rattle.bootlog.proofs.Verdicts.{check-answer, check-buffer, refused-answer, refused-buffer}
+use Rattle.logger.specs.Write.{writeAnswer, writeOf, writeBuffer}
 use Rattle.text.specs.Place.{placed}
 use Rattle.printout.specs.Printout.{printoutOf, printOf}
-use Rattle.duties.specs.Asked.{Asked, begin, add, finish, oneShot, save, load, read, check, print, answered, listed, StateBack, BufferKept, ValuesZero}
-use Rattle.duties.proofs.Numbers.{logNumbers, Read, whole, refused, judged-listed, judged-among, form-among, written-number, reported-number, reading-read, reading-listed}
+use Rattle.duties.specs.Asked.{Asked, begin, add, finish, oneShot, save, load, read, check, print, write, answered, listed, StateBack, BufferKept, ValuesZero}
+use Rattle.duties.proofs.Numbers.{logNumbers, Read, whole, refused, judged-listed, judged-among, form-among, write-listed, written-number, reported-number, reading-read, reading-listed}
 
 -- A check is refused by the log's reading, or for its buffer, or accepted.
 module _ (P : Checked → List ℕ → Type 0) (log out : List ℕ)
@@ -74,7 +75,7 @@ Left out c b = (checkNumber c ≡ 0 → ⊥) → (b ≡ out) × ((checkRegisters
 
 -- Every call ends with a listed result on every input, spoiled states and cut logs included.
 pub every-call-listed : (c : Asked) → List·Memᴰ (answered c) (listed c)
-unfolding answered listed beginOf beginAnswer addOf addAnswer finishOf finishAnswer oneShotOf oneShotAnswer saveOf saveAnswer loadOf loadAnswer printOf
+unfolding answered listed beginOf beginAnswer addOf addAnswer finishOf finishAnswer oneShotOf oneShotAnswer saveOf saveAnswer loadOf loadAnswer printOf writeOf
 every-call-listed (begin m salt) = judged-listed ((not (allowed m), DigestLength) ∷ (not (saltFits (familyOf m) salt), SaltSize) ∷ [])
 every-call-listed (add s xs) = judged-listed ((not (consistentOf s), StateInconsistent) ∷ (ltb limit (s .covered .0 + length xs), MessageLimit) ∷ [])
 every-call-listed (finish s out) =
@@ -100,10 +101,11 @@ every-call-listed (print log out) = by (ltb (length out) (length (printoutOf log
     by : (t : Bool) → List·Memᴰ (writtenNumber (cond t (written.Refused BufferShort) (written.Bytes (length (printoutOf log))))) (0 ∷ 5 ∷ [])
     by true = List·Memᴰ·tail (List·Memᴰ·head refl)
     by false = List·Memᴰ·head refl
+every-call-listed (write salt starts events wish out) = rw (written-number (writeAnswer salt starts events wish (length out)) _) (write-listed salt starts events wish (length out))
 
 -- A refusal hands back the state it was given, writes to no lent buffer and answers zero for every other value and count.
 pub refusal-leaves : (c : Asked) → (answered c ≡ 0 → ⊥) → StateBack c × BufferKept c × ValuesZero c
-unfolding answered StateBack BufferKept ValuesZero beginOf addOf finishOf finishBuffer oneShotOf oneShotBuffer saveOf saveBuffer loadOf printOf placed
+unfolding answered StateBack BufferKept ValuesZero beginOf addOf finishOf finishBuffer oneShotOf oneShotBuffer saveOf saveBuffer loadOf printOf placed writeOf writeBuffer
 refusal-leaves (begin m salt) h = (not-accepted (beginAnswer m salt) _ _ h, tt, tt)
 refusal-leaves (add s xs) h = (not-accepted (addAnswer s xs) _ _ h, tt, tt)
 refusal-leaves (finish s out) h =
@@ -127,3 +129,6 @@ refusal-leaves (print log out) h = let z = by (ltb (length out) (length (printou
         → (placed out 0 (printoutOf log) ≡ out) × (writtenLength (cond t (written.Refused BufferShort) (written.Bytes (length (printoutOf log)))) ≡ 0)
     by false e h = absurd (h refl)
     by true e h = (rw (lt-leb (0 + length (printoutOf log)) (length out) (omega (arith, ltb-true (length out) (length (printoutOf log)) e))), refl)
+refusal-leaves (write salt starts events wish out) h =
+    let a = writeAnswer salt starts events wish (length out) in
+    (tt, not-accepted a _ _ (λ e. h (written-number a _ ∙ e)), not-written a _ h)

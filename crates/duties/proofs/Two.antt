@@ -16,7 +16,7 @@ use Rattle.state.specs.State.{limit, allowed}
 use Rattle.digest.specs.Calls.{saltFits, oneShotAnswer, oneShotOf, oneShotBuffer}
 use Rattle.digest.proofs.Answers.{m-max, digest-length}
 use Rattle.layout.specs.Layout.{readingOf, saltOf, startsOf, eventsOf}
-use Rattle.bootlog.specs.Replay.{eventList, replayed}
+use Rattle.bootlog.specs.Replay.{eventList, saltInEffect, replayed, endValues}
 use Rattle.bootlog.specs.Check.{endsOf, checkedAt, checkOf, checkBuffer}
 use Rattle.bootlog.proofs.Verdicts.{check-answer, check-buffer}
 
@@ -39,8 +39,8 @@ module _ (m : ℕ) (salt xs out : List ℕ) (ok : allowed m ≡ true) (fits : sa
 -- Registers worked out from a log are those that the rule gives, event by event: `replayed` replaces one register an event.
 module _ (log out : List ℕ) (at : Layout) (e : readingOf log ≡ Whole at) (room : 32 * at .registers ≤ length out) where
   pub registers-right : (checkNumber (checkOf log (length out)) ≡ 0)
-      × (checkBuffer log out ≡ replayed (saltOf log at) (eventList (at .events) (eventsOf log at)) (startsOf log at) ++ drop (32 * at .registers) out)
-  unfolding checkedAt endsOf
+      × (checkBuffer log out ≡ replayed (saltInEffect (saltOf log at)) (eventList (at .events) (eventsOf log at)) (startsOf log at) ++ drop (32 * at .registers) out)
+  unfolding checkedAt endsOf endValues
   registers-right =
       let r = le-ltb (length out) (32 * at .registers) room in
       (rw (← check-answer log at e (length out) refl, r), rw (← check-buffer log at e out refl, r))

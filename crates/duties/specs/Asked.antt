@@ -1,5 +1,6 @@
 -- Every call of the digest, of its saved forms and of the boot log with what it is given: what it answers, and what a refusal leaves (the letter's first duty).
 use mathlib.Core.Path.{_≡_}
+use mathlib.Core.Bool.{Bool}
 use mathlib.Core.List.{List, [], _∷_}
 use Prim.Native.Nat.{ℕ}
 use lib.ListN.{length}
@@ -16,11 +17,12 @@ use Rattle.saving.specs.Calls.{saveOf, saveBuffer}
 use Rattle.loading.specs.Calls.{loadOf}
 use Rattle.layout.specs.Layout.{readingOf}
 use Rattle.bootlog.specs.Check.{checkOf, checkBuffer}
+use Rattle.logger.specs.Write.{writeOf, writeBuffer}
 use Rattle.text.specs.Place.{placed}
 use Rattle.printout.specs.Printout.{printoutOf, printOf}
 
 -- A call: digest length and salt; state and bytes; state and buffer; digest length, salt, message and buffer; state and buffer; saved form; log; log and
--- buffer.
+-- buffer; salt, starting registers, events, wish for claims and buffer.
 pub data Asked : Type 0 where
   begin : ℕ → List ℕ → Asked
   add : State → List ℕ → Asked
@@ -31,6 +33,7 @@ pub data Asked : Type 0 where
   read : List ℕ → Asked
   check : List ℕ → List ℕ → Asked
   print : List ℕ → List ℕ → Asked
+  write : List ℕ → List ℕ → List ℕ → Bool → List ℕ → Asked
 
 -- the answer's number, 0 where the call is accepted
 unfoldable pub answered : Asked → ℕ
@@ -43,9 +46,10 @@ answered (load form) = answerNumber (loadOf form .answer)
 answered (read log) = readingNumber (readingOf log)
 answered (check log out) = checkNumber (checkOf log (length out))
 answered (print log out) = writtenNumber (printOf log (length out))
+answered (write salt starts events wish out) = writtenNumber (writeOf salt starts events wish (length out))
 
 -- Document 01, "Order: begin 1, 2; add 4, 3; finish 4, 5; one-shot 1, 2, 3, 5"; of a log 6, 7 and 8, then 5. Document 02, One:
--- reader 9, 10, then 4; writer 4, 5. 0 stands for acceptance.
+-- reader 9, 10, then 4; writer 4, 5. Three: 2, 7, 8, 5. 0 stands for acceptance.
 unfoldable pub listed : Asked → List ℕ
 listed (begin m salt) = 0 ∷ 1 ∷ 2 ∷ []
 listed (add s xs) = 0 ∷ 4 ∷ 3 ∷ []
@@ -56,6 +60,7 @@ listed (load form) = 0 ∷ 9 ∷ 10 ∷ 4 ∷ []
 listed (read log) = 0 ∷ 6 ∷ 7 ∷ 8 ∷ []
 listed (check log out) = 0 ∷ 6 ∷ 7 ∷ 8 ∷ 5 ∷ []
 listed (print log out) = 0 ∷ 5 ∷ []
+listed (write salt starts events wish out) = 0 ∷ 2 ∷ 7 ∷ 8 ∷ 5 ∷ []
 
 -- It hands back the state it was given; begin and load, which were given none, the all-zero state of the small family.
 unfoldable pub StateBack : Asked → Type 0
@@ -68,6 +73,7 @@ StateBack (load form) = loadOf form .state ≡ zeroState
 StateBack (read log) = Unit {0}
 StateBack (check log out) = Unit {0}
 StateBack (print log out) = Unit {0}
+StateBack (write salt starts events wish out) = Unit {0}
 
 -- It writes to no lent buffer.
 unfoldable pub BufferKept : Asked → Type 0
@@ -80,6 +86,7 @@ BufferKept (load form) = Unit {0}
 BufferKept (read log) = Unit {0}
 BufferKept (check log out) = checkBuffer log out ≡ out
 BufferKept (print log out) = placed out 0 (printoutOf log) ≡ out
+BufferKept (write salt starts events wish out) = writeBuffer salt starts events wish out ≡ out
 
 -- It answers zero for every other value and count, and noclaim for the verdict.
 unfoldable pub ValuesZero : Asked → Type 0
@@ -94,3 +101,4 @@ ValuesZero (check log out) =
     (checkRegisters (checkOf log (length out)) ≡ 0) × (checkEvents (checkOf log (length out)) ≡ 0) × (checkBlocks (checkOf log (length out)) ≡ 0)
     × (checkVerdict (checkOf log (length out)) ≡ NoClaim)
 ValuesZero (print log out) = writtenLength (printOf log (length out)) ≡ 0
+ValuesZero (write salt starts events wish out) = writtenLength (writeOf salt starts events wish (length out)) ≡ 0

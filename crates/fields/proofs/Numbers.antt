@@ -5,7 +5,7 @@ use Prim.Native.Nat.{ℕ, zero, suc, _+_, _*_, _/_, _%_, _^_, _≤_, _<_}
 use native.Mathlib.Omega.{arith}
 use native.Mathlib.Nat.{pow-suc}
 use native.Mathlib.Numerals.{add-one}
-use lib.ListN.{length, getD, take, drop, length-append}
+use lib.ListN.{length, getD, take, drop, length-append, List·getD-append}
 use lib.Seq.{drop-cons, getD-append-add}
 use Rattle.fields.specs.Fields.{le, bytesOf, numberIn, numberAt}
 
@@ -45,6 +45,12 @@ number-behind zero xs ys j = refl
 number-behind (suc k) xs ys j =
     let e : length xs + j + 1 ≡ length xs + (j + 1) = omega arith in
     rw (getD-append-add xs ys j 0, e, number-behind k xs ys (j + 1))
+
+-- a number inside xs
+pub number-inside : (k : ℕ) (xs ys : List ℕ) (i : ℕ) → i + k ≤ length xs → numberIn k (xs ++ ys) i ≡ numberIn k xs i
+unfolding numberIn
+number-inside zero xs ys i h = refl
+number-inside (suc k) xs ys i h = rw (List·getD-append xs ys 0 i (omega arith), number-inside k xs ys (i + 1) (omega arith))
 
 -- a number in front of ys
 pub number-read : (k n : ℕ) → n < 256 ^ k → (ys : List ℕ) → numberIn k (le k n ++ ys) 0 ≡ n

@@ -7,7 +7,7 @@ use native.Mathlib.Decide.{decLt}
 use native.Mathlib.Nat.{zero-add}
 use native.Mathlib.Numerals.{add-one}
 use lib.ListN.{length, getD, drop, set, drop-of-length-le}
-use lib.Seq.{sets, sets-eq, set-out, drop-cons}
+use lib.Seq.{sets, sets-eq, set-out, set-set, set-comm, drop-cons}
 use Rattle.fields.specs.Fields.{le, bytesOf}
 use Rattle.fields.proofs.Numbers.{le-length}
 
@@ -56,6 +56,17 @@ sets-sets l i (x ∷ u) v =
 -- what a second call leaves that puts bytes where those of the first end
 pub put-behind : (l : List ℕ) (i j : ℕ) (u v : List ℕ) → j ≡ i + length u → {b c : List ℕ} → b ≡ sets l i u → c ≡ sets b j v → c ≡ sets l i (u ++ v)
 put-behind l i j u v e p q = rw (q, p, e) (sets-sets l i u v)
+
+-- a store and a byte in front of it
+set-front : (l : List ℕ) (i j : ℕ) (u : List ℕ) (y : ℕ) → i < j → set (sets l j u) i y ≡ sets (set l i y) j u
+set-front l i j [] y h = refl
+set-front l i j (x ∷ u) y h = set-front (set l j x) i (suc j) u y (omega arith) ∙ rw (set-comm l j i x y (λ e. omega arith))
+
+-- what is put over a store that is no longer replaces it
+pub sets-over : (l : List ℕ) (i : ℕ) (u v : List ℕ) → length u ≤ length v → sets (sets l i u) i v ≡ sets l i v
+sets-over l i [] v h = refl
+sets-over l i (x ∷ u) [] h = absurd (omega arith)
+sets-over l i (x ∷ u) (y ∷ v) h = rw (set-front (set l i x) i (suc i) u y (omega arith), set-set l i x y) (sets-over (set l i y) (suc i) u v (omega arith))
 
 -- a word, and those behind it
 pub words-step : (out : List ℕ) (to : ℕ) (words : List ℕ) (j : ℕ) → j < length words

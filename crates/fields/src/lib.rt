@@ -4,7 +4,7 @@ ghost use mathlib.Core.Path.{_≡_};
 ghost use Prim.Native.Nat.{_<_, min};
 ghost use lib.ListN.{getD, take, drop};
 ghost use lib.Seq.{sets};
-ghost use Rattle.fields.specs.Fields.{le, bytesOf, numberAt};
+ghost use Rattle.fields.specs.Fields.{le, bytesOf, numberAt, same};
 
 fn wide(b: u8) -> usize
     ensures { λ r. ⌜ r ≡ b ⌝ }
@@ -102,4 +102,21 @@ pub fn put_words(out: &mut [u8], at: usize, words: &[u32])
         to += 4;
         j += 1;
     }
+}
+
+// Whether two slices hold the same bytes.
+pub fn same(a: &[u8], b: &[u8]) -> bool
+    ensures { λ r. ⌜ r ≡ same (now (a .entry)) (now (b .entry)) ⌝ }
+{
+    if a.len() != b.len() {
+        return false;
+    }
+    let mut i = 0;
+    while i < a.len() {
+        if a[i] != b[i] {
+            return false;
+        }
+        i += 1;
+    }
+    true
 }

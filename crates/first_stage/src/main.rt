@@ -16,7 +16,7 @@ fn hand_over(state: State) {
         Written::Bytes(size) => {
             io::write_all(STDOUT_FILENO, text::first(&form, size));
         }
-        Written::Refused(refusal) => streaming::print_refusal(refusal.number()),
+        Written::Refused(refusal) => streaming::print_refusal(STDOUT_FILENO, refusal.number()),
     }
 }
 
@@ -26,7 +26,7 @@ fn measure(state: State) {
     let status = turn.status;
     match status {
         Status::End => hand_over(turn.state),
-        Status::Refused(refusal) => streaming::print_refusal(refusal.number()),
+        Status::Refused(refusal) => streaming::print_refusal(STDOUT_FILENO, refusal.number()),
         _ => {
             io::write_all(
                 STDERR_FILENO,
@@ -41,6 +41,6 @@ fn main() {
     let answer = step.answer;
     match answer {
         Answer::Accepted => measure(step.state),
-        Answer::Refused(refusal) => streaming::print_refusal(refusal.number()),
+        Answer::Refused(refusal) => streaming::print_refusal(STDOUT_FILENO, refusal.number()),
     }
 }

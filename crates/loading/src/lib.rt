@@ -2,7 +2,7 @@
 ghost use mathlib.Core.Path.{_≡_};
 ghost use Prim.Native.Nat.{_*_, _≤_};
 ghost use Rattle.answers.specs.declared.refusal.Answer.the-variants.{Refused};
-ghost use Rattle.answers.specs.Refusal.{firstOf, judged};
+ghost use Rattle.answers.specs.Refusal.{judged};
 ghost use Rattle.family.specs.Family.{blockBytes, chainWords, saltBytes};
 ghost use Rattle.fields.specs.Fields.{numberIn};
 ghost use Rattle.state.specs.Bytes.{fill};
@@ -75,16 +75,6 @@ fn ended(form: &[u8], end: usize) -> Answer
     Answer::Accepted
 }
 
-// The first refusal of two answers.
-fn also(first: Answer, next: Answer) -> Answer
-    ensures { λ r. ⌜ r ≡ firstOf first next ⌝ }
-{
-    match first {
-        Answer::Accepted => next,
-        Answer::Refused(refusal) => Answer::Refused(refusal),
-    }
-}
-
 fn family_in(form: &[u8]) -> Family
     ensures { λ r. ⌜ r ≡ familyIn (now (form .entry)) ⌝ }
 {
@@ -145,8 +135,11 @@ fn shape(form: &[u8]) -> Answer
     let covered = covered_section(form, saved_form::covered_place(family));
     let held = section(form, at, rest, rest);
     let end = ended(form, at + 2 + rest);
-    let behind = also(chain, also(covered, also(held, end)));
-    also(parameters, also(known, also(salt, behind)))
+    let behind = answers::also(chain, answers::also(covered, answers::also(held, end)));
+    answers::also(
+        parameters,
+        answers::also(known, answers::also(salt, behind)),
+    )
 }
 
 // `count` words of 4 bytes, with zeros up to 16.

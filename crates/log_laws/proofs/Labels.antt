@@ -15,7 +15,7 @@ use Rattle.answers.specs.declared.reading.Reading.the-variants as reading
 use Rattle.fields.specs.Fields.{numberIn, numberAt}
 use Rattle.layout.specs.Layout.{andThen, reads, sectionEnd, saltEnd, registersEnd, eventsEnd, eventSectionEnd, claimsEnd, readingOf}
 use Rattle.layout.specs.Layout.{saltOf, startsOf, eventsOf, claimsOf}
-use Rattle.bootlog.specs.Replay.{eventList, replayed}
+use Rattle.bootlog.specs.Replay.{eventList, saltInEffect, replayed, endValues}
 use Rattle.bootlog.specs.Check.{endsOf, verdictOf, checkedAt, checkOf, checkBuffer}
 use Rattle.layout.proofs.Sections.{section, event-section}
 use Rattle.layout.proofs.Sizes.{counts}
@@ -157,10 +157,10 @@ module _ (log log′ : List ℕ) (d : LabelsOnly log log′) where
         part-same (at .fourth + 2) (32 * at .claims) (omega (arith, third-read))
 
     ends-same : endsOf log at ≡ endsOf log′ at
-    unfolding endsOf eventsOf
+    unfolding endsOf endValues eventsOf
     ends-same =
         let z : at .third + 2 ≡ thirdAt log + 2 + 36 * 0 = omega (arith, third-read) in
-        rw (salt-same, starts-same, z) (replay-same (saltOf log′ at) (at .events) 0 (startsOf log′ at))
+        rw (salt-same, starts-same, z) (replay-same (saltInEffect (saltOf log′ at)) (at .events) 0 (startsOf log′ at))
 
     checked-same : (room : ℕ) → checkedAt log at room ≡ checkedAt log′ at room
     unfolding checkedAt verdictOf

@@ -10,7 +10,7 @@ use Rattle.answers.specs.declared.reading.Reading.{Reading}
 use Rattle.answers.specs.declared.checked.Verdict.{Verdict}
 use Rattle.answers.specs.declared.checked.Checked.{Checked}
 use Rattle.answers.specs.declared.written.Written.{Written}
-use Rattle.answers.specs.Refusal.{refusalNumber, answerNumber}
+use Rattle.answers.specs.Refusal.{refusalNumber, answerNumber, firstOf}
 use Rattle.answers.specs.Checked.{checkVerdict}
 
 -- `Refusal::number`
@@ -40,3 +40,7 @@ verdict-one x = one (checkVerdict x)
 -- `number` and `length` of what print and save answer
 pub written-one : (value : Written → ℕ) (x : Written) → OneOutcome (λ (n : ℕ). n ≡ value x)
 written-one value x = one (value x)
+
+-- `also`
+pub also-one : (first next : Answer) → OneOutcome (λ (r : Answer). r ≡ firstOf first next)
+also-one first next = one (firstOf first next)

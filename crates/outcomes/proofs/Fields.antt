@@ -1,12 +1,13 @@
 -- Each public call of `fields` has only one outcome: the number or bytes read, or the buffer.
 use mathlib.Core.Path.{_≡_}
+use mathlib.Core.Bool.{Bool}
 use mathlib.Core.List.{List}
 use Prim.Native.Nat.{ℕ, _<_}
 use lib.ListN.{getD, take, drop}
 use lib.Seq.{sets}
 use Rattle.outcome.specs.Outcome.{OneOutcome}
 use Rattle.outcome.proofs.Outcome.{one}
-use Rattle.fields.specs.Fields.{le, bytesOf, numberAt}
+use Rattle.fields.specs.Fields.{le, bytesOf, numberAt, same}
 
 -- `byte_at`
 pub byte-at-one : (bytes : List ℕ) (i : ℕ) → OneOutcome (λ (r : ℕ). (r ≡ getD bytes i 0) × (r < 256))
@@ -32,3 +33,7 @@ put-bytes-one out at bytes = one (sets out at bytes)
 -- `put_words`
 pub put-words-one : (out : List ℕ) (at : ℕ) (words : List ℕ) → OneOutcome (λ (b : List ℕ). b ≡ sets out at (bytesOf words))
 put-words-one out at words = put-bytes-one out at (bytesOf words)
+
+-- `same`
+pub same-one : (a b : List ℕ) → OneOutcome (λ (r : Bool). r ≡ same a b)
+same-one a b = one (same a b)

@@ -1,4 +1,4 @@
--- Each public call of `text` and `printout` has only one outcome: what it answers, and the buffer.
+-- Each public call of `text`, `hex` and `printout` has only one outcome: what it answers, and the buffer.
 use mathlib.Core.Path.{_≡_}
 use mathlib.Core.List.{List}
 use Prim.Native.Nat.{ℕ}
@@ -8,6 +8,8 @@ use Rattle.outcome.proofs.Outcome.{one, one-pair}
 use Rattle.answers.specs.declared.written.Written.{Written}
 use Rattle.text.specs.Digits.{hexOf, upperOf, decimalOf}
 use Rattle.text.specs.Place.{placed, placeAfter}
+use Rattle.hex.specs.declared.Decoded.{Decoded}
+use Rattle.hex.specs.Hex.{decodeOf, decodeBuffer}
 use Rattle.printout.specs.Printout.{printoutOf, printOf}
 
 -- what every call of `text` that puts xs promises
@@ -37,3 +39,7 @@ first-one bytes n = one (take n bytes)
 -- `print`
 pub print-one : (log out : List ℕ) → OneOutcome (λ (o : Written × List ℕ). (o .0 ≡ printOf log (length out)) × (o .1 ≡ placed out 0 (printoutOf log)))
 print-one log out = one-pair (printOf log (length out)) (placed out 0 (printoutOf log))
+
+-- `decode`
+pub decode-one : (text out : List ℕ) → OneOutcome (λ (o : Decoded × List ℕ). (o .0 ≡ decodeOf text (length out)) × (o .1 ≡ decodeBuffer text out))
+decode-one text out = one-pair (decodeOf text (length out)) (decodeBuffer text out)

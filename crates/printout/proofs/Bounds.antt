@@ -15,7 +15,8 @@ use Rattle.answers.specs.declared.checked.Checked.{Checked}
 use Rattle.answers.specs.declared.checked.Checked.the-variants as checked
 use Rattle.layout.specs.Layout.{readingOf, claimsOf}
 use Rattle.bootlog.specs.Replay.{registerAt}
-use Rattle.bootlog.specs.Check.{same, endsOf, compared, verdictOf, checkedAt, checkOf, checkBuffer}
+use Rattle.fields.specs.Fields.{same}
+use Rattle.bootlog.specs.Check.{endsOf, compared, verdictOf, checkedAt, checkOf, checkBuffer}
 use Rattle.answers.specs.Checked.{checkRegisters}
 use Rattle.answers.specs.declared.refusal.Refusal.the-variants.{BufferShort}
 use Rattle.answers.specs.declared.written.Written.the-variants.{Bytes, Refused}

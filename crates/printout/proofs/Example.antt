@@ -5,7 +5,7 @@ use Prim.Native.Nat.{ℕ}
 use lib.ListN.{replicate}
 use Rattle.fields.specs.Fields.{numberIn}
 use Rattle.layout.specs.Layout.{sectionEnd, eventsEnd, saltEnd, registersEnd, eventSectionEnd, claimsEnd, readingOf, saltOf, startsOf, eventsOf}
-use Rattle.bootlog.specs.Replay.{eventList, registerAt, replayed, replayBlocks}
+use Rattle.bootlog.specs.Replay.{eventList, registerAt, replayed, endValues, replayBlocks}
 use Rattle.bootlog.specs.Check.{endsOf, verdictOf, checkedAt, checkOf, checkBuffer}
 use Rattle.text.specs.Digits.{digit, hexIn, hexOf, decimalIn, decimalOf}
 use Rattle.printout.specs.Printout.{feed, verdictText, registerLine, registerLines, spaced, textOf, printoutOf}
@@ -19,5 +19,5 @@ abbrev pub lines : List ℕ
 lines = 97 ∷ 99 ∷ 99 ∷ 101 ∷ 112 ∷ 116 ∷ 101 ∷ 100 ∷ 32 ∷ 49 ∷ 32 ∷ 48 ∷ 32 ∷ 48 ∷ 32 ∷ 110 ∷ 111 ∷ 99 ∷ 108 ∷ 97 ∷ 105 ∷ 109 ∷ 10 ∷ 48 ∷ 32 ∷ (replicate 64 48 ++ feed)
 
 pub example : printoutOf smallest ≡ lines
-unfolding printoutOf textOf spaced registerLines registerLine verdictText digit hexIn hexOf decimalIn decimalOf checkBuffer checkOf checkedAt verdictOf endsOf replayBlocks replayed registerAt eventList eventsOf startsOf saltOf readingOf claimsEnd eventSectionEnd registersEnd saltEnd eventsEnd sectionEnd numberIn
+unfolding printoutOf textOf spaced registerLines registerLine verdictText digit hexIn hexOf decimalIn decimalOf checkBuffer checkOf checkedAt verdictOf endsOf endValues replayBlocks replayed registerAt eventList eventsOf startsOf saltOf readingOf claimsEnd eventSectionEnd registersEnd saltEnd eventsEnd sectionEnd numberIn
 example = refl

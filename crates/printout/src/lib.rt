@@ -111,7 +111,7 @@ pub fn print(log: &[u8], out: &mut [u8]) -> Written
     ensures result { λ r. ⌜ r ≡ printOf (now (log .entry)) (length (now (out .entry))) ⌝ }
     ensures buffer { λ r. ⌜ now (out .exit) ≡ placed (now (out .entry)) 0 (printoutOf (now (log .entry))) ⌝ }
 {
-    let mut bank = [0u8; 768];
+    let mut bank = [0u8; bootlog::ROOM];
     let checked = bootlog::check(log, &mut bank);
     let mut whole = [0u8; 2048];
     let n = compose(&mut whole, &bank, checked);

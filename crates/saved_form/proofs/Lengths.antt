@@ -11,9 +11,10 @@ use Rattle.family.specs.Family.{familyNumber, blockBytes, chainWords, saltBytes
 use Rattle.fields.specs.Fields.{le, bytesOf}
 use Rattle.state.specs.declared.State.{State}
 use Rattle.saved_form.specs.Sized.{Sized}
-use Rattle.saved_form.specs.Form.{saltWords, section, parameterSection, saltSection, chainSection, coveredSection, heldSection, formOf, saltPlace, heldStart}
+use Rattle.saved_form.specs.Form.{saltWords, parameterSection, saltSection, chainSection, coveredSection, heldSection, formOf, saltPlace, heldStart}
 use Rattle.family.proofs.Sizes.{words-max, salt-max, block-pos, block-max}
 use Rattle.fields.proofs.Numbers.{le-length, bytes-length}
+use Rattle.fields.proofs.There.{section-length}
 
 -- ---- the sections' contents
 pub parameters-size : (f : Family) (m : ℕ) → length (le 2 (familyNumber f) ++ le 2 m) ≡ 4
@@ -36,9 +37,6 @@ module _ (s : State) (sized : Sized s) where
   held-size = length-take-le (s .covered .0 % blockBytes (s .family)) (s .held) (omega (arith, sized .held, rest-below s, block-max (s .family)))
 
 -- ---- the sections
-section-length : (count : ℕ) (contents : List ℕ) (n : ℕ) → length contents ≡ n → length (section count contents) ≡ 2 + n
-section-length count contents n e = omega (arith, e, length-append (le 2 count) contents, le-length 2 count)
-
 pub parameters-length : (f : Family) (m : ℕ) → length (parameterSection f m) ≡ saltPlace
 unfolding parameterSection
 parameters-length f m = section-length 2 (le 2 (familyNumber f) ++ le 2 m) 4 (parameters-size f m)

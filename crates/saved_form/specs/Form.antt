@@ -5,16 +5,12 @@ use lib.ListN.{take}
 use Rattle.family.specs.declared.Family.{Family}
 use Rattle.family.specs.declared.Family.the-variants.{Small, Large}
 use Rattle.family.specs.Family.{familyNumber, blockBytes, chainWords, saltBytes}
-use Rattle.fields.specs.Fields.{le, bytesOf}
+use Rattle.fields.specs.Fields.{le, bytesOf, section}
 use Rattle.state.specs.declared.State.{State}
 
 -- the words of a salt
 abbrev pub saltWords : Family → ℕ
 saltWords f = saltBytes f / 4
-
--- a section: its count, then its contents
-abbrev pub section : ℕ → List ℕ → List ℕ
-section count contents = le 2 count ++ contents
 
 -- "parameters (2 numbers of 2 bytes: family 0 or 1, m)"
 unfoldable pub parameterSection : Family → ℕ → List ℕ

@@ -10,16 +10,12 @@ use Rattle.family.specs.Family.{familyNumber, blockBytes, chainWords, saltBytes
 use Rattle.fields.specs.Fields.{le, bytesOf}
 use Rattle.state.specs.declared.State.{State}
 use Rattle.saved_form.specs.Sized.{Sized}
-use Rattle.saved_form.specs.Form.{saltWords, section, parameterSection, saltSection, chainSection, coveredSection, heldSection, formOf, saltPlace, chainPlace, coveredPlace, heldPlace}
-use Rattle.fields.proofs.Numbers.{le-length}
+use Rattle.saved_form.specs.Form.{saltWords, parameterSection, saltSection, chainSection, coveredSection, heldSection, formOf, saltPlace, chainPlace, coveredPlace, heldPlace}
 use Rattle.fields.proofs.Storing.{put-behind}
+use Rattle.fields.proofs.There.{section-put}
 use Rattle.saved_form.proofs.Lengths.{parameters-length, salt-length, chain-length, covered-length}
 
 module _ (out : List ℕ) where
-  -- a count, and contents behind it
-  section-put : (at count : ℕ) (contents : List ℕ) {a b : List ℕ} → a ≡ sets out at (le 2 count) → b ≡ sets a (at + 2) contents → b ≡ sets out at (section count contents)
-  section-put at count contents = put-behind out at (at + 2) (le 2 count) contents (omega (arith, le-length 2 count))
-
   pub parameters-put : (f : Family) (m : ℕ) {n : ℕ} → n ≡ familyNumber f → {a b c : List ℕ}
       → a ≡ sets out 0 (le 2 2) → b ≡ sets a 2 (le 2 n) → c ≡ sets b 4 (le 2 m) → c ≡ sets out 0 (parameterSection f m)
   unfolding parameterSection le
@@ -29,22 +25,22 @@ module _ (out : List ℕ) where
   pub salt-put : (f : Family) (salt : List ℕ) {size : ℕ} → size ≡ saltBytes f → {part a b : List ℕ} → part ≡ take size (drop 0 salt)
       → a ≡ sets out saltPlace (le 2 (size / 4)) → b ≡ sets a 8 part → b ≡ sets out saltPlace (saltSection f salt)
   unfolding saltSection
-  salt-put f salt e x p q = section-put saltPlace (saltWords f) (take (saltBytes f) salt) (rw e at p) (rw (x, e) at q)
+  salt-put f salt e x p q = section-put out saltPlace (saltWords f) (take (saltBytes f) salt) (rw e at p) (rw (x, e) at q)
 
   pub chain-put : (f : Family) (chain : List ℕ) {at count : ℕ} → at ≡ chainPlace f → count ≡ chainWords f → {a b : List ℕ}
       → a ≡ sets out at (le 2 count) → b ≡ sets a (at + 2) (bytesOf (take count chain)) → b ≡ sets out (chainPlace f) (chainSection f chain)
   unfolding chainSection
-  chain-put f chain e x p q = section-put (chainPlace f) (chainWords f) (bytesOf (take (chainWords f) chain)) (rw (e, x) at p) (rw (e, x) at q)
+  chain-put f chain e x p q = section-put out (chainPlace f) (chainWords f) (bytesOf (take (chainWords f) chain)) (rw (e, x) at p) (rw (e, x) at q)
 
   pub covered-put : (f : Family) (covered : ℕ) {at : ℕ} → at ≡ coveredPlace f → {a b : List ℕ}
       → a ≡ sets out at (le 2 1) → b ≡ sets a (at + 2) (le 8 covered) → b ≡ sets out (coveredPlace f) (coveredSection covered)
   unfolding coveredSection
-  covered-put f covered e p q = section-put (coveredPlace f) 1 (le 8 covered) (rw e at p) (rw e at q)
+  covered-put f covered e p q = section-put out (coveredPlace f) 1 (le 8 covered) (rw e at p) (rw e at q)
 
   pub held-put : (f : Family) (rest : ℕ) (held : List ℕ) {at : ℕ} → at ≡ heldPlace f → {part a b : List ℕ} → part ≡ take rest (drop 0 held)
       → a ≡ sets out at (le 2 rest) → b ≡ sets a (at + 2) part → b ≡ sets out (heldPlace f) (heldSection rest held)
   unfolding heldSection
-  held-put f rest held e x p q = section-put (heldPlace f) rest (take rest held) (rw e at p) (rw (e, x) at q)
+  held-put f rest held e x p q = section-put out (heldPlace f) rest (take rest held) (rw e at p) (rw (e, x) at q)
 
 module _ (s : State) (sized : Sized s) where
   abbrev f : Family

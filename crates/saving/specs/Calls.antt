@@ -7,10 +7,9 @@ use lib.ListN.{length}
 use Rattle.answers.specs.declared.refusal.Refusal.the-variants.{StateInconsistent, BufferShort}
 use Rattle.answers.specs.declared.refusal.Answer.{Answer}
 use Rattle.answers.specs.Refusal.{judged}
-use Rattle.answers.specs.Written.{writtenIf}
+use Rattle.answers.specs.Written.{writtenIf, written}
 use Rattle.state.specs.declared.State.{State}
 use Rattle.state.specs.State.{consistentOf}
-use Rattle.digest.specs.Calls.{written}
 use Rattle.saving.specs.declared.Saved.{Saved}
 use Rattle.saved_form.specs.Form.{formOf}
 

@@ -8,7 +8,7 @@ use crate::words;
 use state::State;
 
 // A line has at most this many bytes.
-const LONGEST: usize = 131072;
+const LONGEST: usize = 196608;
 
 // The size of the line made, and the state after it.
 pub(crate) struct Said {
@@ -25,6 +25,7 @@ enum Call {
     Check,
     Save,
     Load,
+    Write,
     Unreadable,
 }
 
@@ -35,28 +36,31 @@ fn named(line: &[u8]) -> Call {
     if line.len() > LONGEST {
         return Call::Unreadable;
     }
-    if n == 1 && words::same(name, b"add") {
+    if n == 1 && fields::same(name, b"add") {
         return Call::Add;
     }
-    if n == 1 && words::same(name, b"finish") {
+    if n == 1 && fields::same(name, b"finish") {
         return Call::Finish;
     }
-    if n == 1 && words::same(name, b"save") {
+    if n == 1 && fields::same(name, b"save") {
         return Call::Save;
     }
-    if n == 1 && words::same(name, b"load") {
+    if n == 1 && fields::same(name, b"load") {
         return Call::Load;
     }
-    if n == 2 && words::same(name, b"begin") {
+    if n == 2 && fields::same(name, b"begin") {
         return Call::Begin;
     }
-    if n == 2 && words::same(name, b"check") {
+    if n == 2 && fields::same(name, b"check") {
         return Call::Check;
     }
-    if n == 4 && words::same(name, b"oneshot") {
+    if n == 4 && fields::same(name, b"oneshot") {
         return Call::OneShot;
     }
-    if n == 7 && words::same(name, b"state") {
+    if n == 5 && fields::same(name, b"write") {
+        return Call::Write;
+    }
+    if n == 7 && fields::same(name, b"state") {
         return Call::State;
     }
     Call::Unreadable
@@ -75,6 +79,7 @@ fn asked(
     line: &[u8],
     state: State,
     salt: &mut [u8],
+    bank: &mut [u8],
     data: &mut [u8],
     lent: &mut [u8],
     out: &mut [u8],
@@ -84,6 +89,7 @@ fn asked(
         Call::OneShot => hashing::one_shot(line, salt, data, lent, out),
         Call::Check => logs::check(line, data, lent, out),
         Call::Save => forms::save(line, state, lent, out),
+        Call::Write => logs::write(line, salt, bank, data, lent, out),
         _ => show::unreadable(out),
     }
 }
@@ -93,6 +99,7 @@ pub(crate) fn answer(
     line: &[u8],
     state: State,
     salt: &mut [u8],
+    bank: &mut [u8],
     data: &mut [u8],
     lent: &mut [u8],
     out: &mut [u8],
@@ -104,7 +111,7 @@ pub(crate) fn answer(
         Call::Add => hashing::add(line, state, data, out),
         Call::Load => forms::load(line, state, data, out),
         _ => Said {
-            size: asked(call, line, state, salt, data, lent, out),
+            size: asked(call, line, state, salt, bank, data, lent, out),
             state: state,
         },
     }

@@ -45,6 +45,7 @@ fn reply(
     line: &[u8],
     state: State,
     salt: &mut [u8],
+    bank: &mut [u8],
     data: &mut [u8],
     lent: &mut [u8],
     out: &mut [u8],
@@ -52,7 +53,7 @@ fn reply(
     if is_comment(line) {
         return state;
     }
-    let said = calls::answer(line, state, salt, data, lent, out);
+    let said = calls::answer(line, state, salt, bank, data, lent, out);
     let end = text::put(out, said.size, b"\n");
     io::write_all(STDOUT_FILENO, text::first(out, end));
     said.state
@@ -64,6 +65,7 @@ fn feed(
     kept: Kept,
     line: &mut [u8],
     salt: &mut [u8],
+    bank: &mut [u8],
     data: &mut [u8],
     lent: &mut [u8],
     out: &mut [u8],
@@ -81,7 +83,7 @@ fn feed(
             };
         }
         at = stop + 1;
-        let next = reply(text::first(line, size), state, salt, data, lent, out);
+        let next = reply(text::first(line, size), state, salt, bank, data, lent, out);
         state = next;
         size = 0;
     }
@@ -92,11 +94,19 @@ fn feed(
 }
 
 // Answers a last line that no line feed ends.
-fn end(kept: Kept, line: &[u8], salt: &mut [u8], data: &mut [u8], lent: &mut [u8], out: &mut [u8]) {
+fn end(
+    kept: Kept,
+    line: &[u8],
+    salt: &mut [u8],
+    bank: &mut [u8],
+    data: &mut [u8],
+    lent: &mut [u8],
+    out: &mut [u8],
+) {
     let size = kept.size;
     let state = kept.state;
     if size > 0 {
-        reply(text::first(line, size), state, salt, data, lent, out);
+        reply(text::first(line, size), state, salt, bank, data, lent, out);
     }
 }
 
@@ -106,6 +116,7 @@ pub(crate) fn run(
     chunk: &mut [u8],
     line: &mut [u8],
     salt: &mut [u8],
+    bank: &mut [u8],
     data: &mut [u8],
     lent: &mut [u8],
     out: &mut [u8],
@@ -116,10 +127,19 @@ pub(crate) fn run(
         turns -= 1;
         let n = io::count(libc::read(STDIN_FILENO, chunk), chunk);
         if n == 0 {
-            end(kept, line, salt, data, lent, out);
+            end(kept, line, salt, bank, data, lent, out);
             return;
         }
-        let next = feed(text::first(chunk, n), kept, line, salt, data, lent, out);
+        let next = feed(
+            text::first(chunk, n),
+            kept,
+            line,
+            salt,
+            bank,
+            data,
+            lent,
+            out,
+        );
         kept = next;
     }
 }

@@ -1,4 +1,4 @@
-// Answers a file of cases, one line for each call: begin, state, add, finish, oneshot, check, save and load, on one current state.
+// Answers a file of cases, one line for each call: begin, state, add, finish, oneshot, check, save, load and write, on one current state.
 mod calls;
 mod forms;
 mod given;
@@ -12,8 +12,9 @@ mod words;
 fn main() {
     let mut chunk = [0u8; 65536];
     // One byte more than the longest line, so that a line that is too long shows.
-    let mut line = [0u8; 131073];
+    let mut line = [0u8; 196609];
     let mut salt = [0u8; 40000];
+    let mut bank = [0u8; 40000];
     let mut data = [0u8; 40000];
     let mut lent = [0u8; 40000];
     // A state and the longest byte string, spelled.
@@ -22,6 +23,7 @@ fn main() {
         &mut chunk,
         &mut line,
         &mut salt,
+        &mut bank,
         &mut data,
         &mut lent,
         &mut out,

@@ -56,7 +56,7 @@ fn decode(word: &[u8], out: &mut [u8], n: usize) -> Bytes
 
 // A byte string, put at the start of `out`.
 pub(crate) fn read_bytes(word: &[u8], out: &mut [u8]) -> Bytes {
-    if words::same(word, b"-") {
+    if fields::same(word, b"-") {
         return Bytes::Are(0);
     }
     let n = word.len() / 2;

@@ -54,17 +54,3 @@ pub(crate) fn arguments(line: &[u8]) -> usize {
     }
     n
 }
-
-pub(crate) fn same(a: &[u8], b: &[u8]) -> bool {
-    if a.len() != b.len() {
-        return false;
-    }
-    let mut i = 0;
-    while i < a.len() {
-        if a[i] != b[i] {
-            return false;
-        }
-        i += 1;
-    }
-    true
-}

@@ -1,5 +1,6 @@
 // The program's arguments. `count` has the program's own name among them.
 ghost use Prim.Native.Nat.{_≤_};
+use hex::Decoded;
 
 // A digest length in bits, which begin judges.
 pub enum Asked {
@@ -55,53 +56,6 @@ pub(crate) fn digest_bits(count: usize) -> Asked {
     decimal(&text[..n])
 }
 
-// The value of a hex digit, or 16.
-fn nibble(b: u8) -> u8
-    ensures { λ r. ⌜ r ≤ 16 ⌝ }
-{
-    match b {
-        b'0'..=b'9' => b - b'0',
-        b'a'..=b'f' => b - b'a' + 10,
-        b'A'..=b'F' => b - b'A' + 10,
-        _ => 16,
-    }
-}
-
-// The value of two hex digits, or 256.
-fn pair(high: u8, low: u8) -> u16
-    ensures { λ r. ⌜ r ≤ 256 ⌝ }
-{
-    let h = nibble(high);
-    if h > 15 {
-        return 256;
-    }
-    let l = nibble(low);
-    if l > 15 {
-        return 256;
-    }
-    (16 * h + l) as u16
-}
-
-fn hex(text: &[u8], salt: &mut [u8]) -> Salt {
-    let size = text.len() / 2;
-    if text.len() % 2 != 0 {
-        return Salt::Digits;
-    }
-    if size > salt.len() {
-        return Salt::Long;
-    }
-    let mut i = 0;
-    while i < size {
-        let b = pair(text[2 * i], text[2 * i + 1]);
-        if b > 255 {
-            return Salt::Digits;
-        }
-        salt[i] = b as u8;
-        i += 1;
-    }
-    Salt::Bytes(size)
-}
-
 // Puts the salt's bytes at the start of `salt`.
 pub(crate) fn salt_bytes(count: usize, salt: &mut [u8]) -> Salt {
     if count < 3 {
@@ -112,5 +66,9 @@ pub(crate) fn salt_bytes(count: usize, salt: &mut [u8]) -> Salt {
     if os::errno() != 0 {
         return Salt::Long;
     }
-    hex(&text[..n], salt)
+    match hex::decode(&text[..n], salt) {
+        Decoded::Bytes(size) => Salt::Bytes(size),
+        Decoded::NotHex => Salt::Digits,
+        Decoded::NoRoom => Salt::Long,
+    }
 }

@@ -6,6 +6,7 @@ mod output;
 use answers::Answer;
 use arguments::Asked;
 use arguments::Salt;
+use libc::STDOUT_FILENO;
 use state::State;
 use streaming::Status;
 
@@ -23,7 +24,7 @@ fn digest_input(state: State) {
     let status = turn.status;
     match status {
         Status::End => print_finished(turn.state),
-        Status::Refused(refusal) => streaming::print_refusal(refusal.number()),
+        Status::Refused(refusal) => streaming::print_refusal(STDOUT_FILENO, refusal.number()),
         _ => output::complain(b"standard input cannot be read"),
     }
 }
@@ -33,7 +34,7 @@ fn run(m: u16, salt: &[u8]) {
     let answer = step.answer;
     match answer {
         Answer::Accepted => digest_input(step.state),
-        Answer::Refused(refusal) => streaming::print_refusal(refusal.number()),
+        Answer::Refused(refusal) => streaming::print_refusal(STDOUT_FILENO, refusal.number()),
     }
 }
 

@@ -22,7 +22,7 @@ fn print_digest(digest: &[u8], covered: u64, blocks: u64) {
 
 pub(crate) fn print_report(report: Report, bytes: &[u8], count: usize) {
     if report.number() != 0 {
-        streaming::print_refusal(report.number());
+        streaming::print_refusal(STDOUT_FILENO, report.number());
         return;
     }
     print_digest(text::first(bytes, count), report.covered(), report.blocks());

@@ -2,7 +2,6 @@
 use answers::Answer;
 use answers::Refusal;
 use libc::STDIN_FILENO;
-use libc::STDOUT_FILENO;
 use state::State;
 
 pub enum Status {
@@ -70,10 +69,11 @@ pub fn add_all(state: State, buffer: &mut [u8]) -> Turn {
     }
 }
 
-pub fn print_refusal(number: u8) {
+// Writes the line of a refusal to an open file.
+pub fn print_refusal(file: i32, number: u8) {
     let mut line = [0u8; 32];
     let at = text::put(&mut line, 0, b"refused ");
     let end = text::put_decimal(&mut line, at, number as u64);
     let size = text::put(&mut line, end, b"\n");
-    io::write_all(STDOUT_FILENO, text::first(&line, size));
+    io::write_all(file, text::first(&line, size));
 }

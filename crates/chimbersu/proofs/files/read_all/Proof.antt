@@ -1,19 +1,20 @@
--- Each turn reads two digits of the text.
+-- What is read lies in the buffer, and each turn reads more of it.
+use mathlib.Core.Path.{_≡_, _∙_}
 use Prim.Native.Nat.{_-_, _≤_}
-use mathlib.Core.Path.{_≡_}
+use native.Mathlib.Omega.{arith}
 use lib.ListN.{length}
 use borrow.Author.Needs.{needs}
-use Rattle.shavite3sum.proofs.arguments.hex.Statement.{statement}
-use Rattle.shavite3sum.proofs.arguments.hex.Tie as tie
+use Rattle.chimbersu.proofs.files.read_all.Statement.{statement}
+use Rattle.chimbersu.proofs.files.read_all.Tie as tie
 
 abbrev Inv-loop : tie.InvT-loop
-Inv-loop text salt₀ size i₀ salt i = (i ≤ size) × (length salt ≡ length salt₀)
+Inv-loop file buffer₀ done₀ buffer done = (done ≤ length buffer) × (length buffer ≡ length buffer₀)
 
 abbrev μ-loop : tie.MeasureT-loop
-μ-loop text salt₀ size i₀ salt i = size - i
+μ-loop file buffer₀ done₀ buffer done = length buffer - done
 
-pub hex-spec : {M : Type 1} → statement M
-hex-spec =
+pub read-all-spec : {M : Type 1} → statement M
+read-all-spec =
     tie.close
     (tie.spec
     Inv-loop
@@ -22,13 +23,13 @@ hex-spec =
     (λ c. search needs)
     (λ c. search needs)
     (λ c. search needs)
+    (λ c κs. search needs)
+    (λ c. search needs)
     (λ c. search needs)
     (λ c. search needs)
     (λ c. search needs)
     (λ c. search needs)
     (λ c κs. search needs)
-    (λ c. search needs)
-    (λ c. search needs)
     (λ c. search needs)
     (λ c. search needs)
     (λ c. search needs)

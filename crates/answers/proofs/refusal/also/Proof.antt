@@ -1,7 +1,7 @@
 -- A refusal stands, and an acceptance gives way to the next answer.
 use borrow.Author.Needs.{needs}
-use Rattle.loading.proofs.also.Statement.{statement}
-use Rattle.loading.proofs.also.Tie as tie
+use Rattle.answers.proofs.refusal.also.Statement.{statement}
+use Rattle.answers.proofs.refusal.also.Tie as tie
 
 returns-2 : tie.Need-returns-2
 returns-2 c = rw (c .before .first .given .1)

@@ -1,0 +1,4 @@
+pub mod Back
+pub mod Comparing
+pub mod Accepted
+pub mod Again
