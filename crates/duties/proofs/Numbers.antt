@@ -21,7 +21,7 @@ use Rattle.answers.specs.Written.{writtenNumber, writtenIf}
 use Rattle.family.specs.Family.{chainWords, saltBytes}
 use Rattle.saved_form.specs.Form.{saltWords, saltPlace, chainPlace, coveredPlace, heldPlace}
 use Rattle.loading.specs.Reading.{familyIn, restIn, sectionTests, familyTests, endTests, formTests}
-use Rattle.bootlog.specs.Replay.{eventList}
+use Rattle.records.specs.Events.{eventList}
 use Rattle.logger.specs.Write.{registersIn, eventsIn, startsFit, eventsFit, foreign, partsAnswer, logFor, writeAnswer}
 use Rattle.answers.proofs.Judged.{judged-first}
 use Rattle.layout.specs.declared.Place.{Place}

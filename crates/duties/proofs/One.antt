@@ -54,7 +54,7 @@ module _ (P : Checked → List ℕ → Type 0) (log out : List ℕ)
 
       by : (x : Reading) → readingOf log ≡ x → Read x → P (checkOf log (length out)) (checkBuffer log out)
       by (reading.Refused r) e (refused h) = rw (← refused-answer log r e (length out), ← refused-buffer log r e out) (unread r h)
-      by (reading.Whole at) e whole = rw (← check-answer log at e (length out) refl, ← check-buffer log at e out refl) (room (ltb (length out) (32 * at .registers)) _ _ _ _ _)
+      by (reading.Whole at) e whole = rw (← check-answer log at e (length out) refl, ← check-buffer log at e out refl) (room (ltb (length out) (34 * at .registers)) _ _ _ _ _)
 
 -- a call's number tells its answer
 not-accepted : {A : Type 0} (a : Answer) (x y : A) → (answerNumber a ≡ 0 → ⊥) → ifAccepted a x y ≡ y

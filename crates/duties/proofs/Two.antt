@@ -16,9 +16,12 @@ use Rattle.state.specs.State.{limit, allowed}
 use Rattle.digest.specs.Calls.{saltFits, oneShotAnswer, oneShotOf, oneShotBuffer}
 use Rattle.digest.proofs.Answers.{m-max, digest-length}
 use Rattle.layout.specs.Layout.{readingOf, saltOf, startsOf, eventsOf}
-use Rattle.bootlog.specs.Replay.{eventList, saltInEffect, replayed, endValues}
-use Rattle.bootlog.specs.Check.{endsOf, checkedAt, checkOf, checkBuffer}
-use Rattle.bootlog.proofs.Verdicts.{check-answer, check-buffer}
+use Rattle.records.specs.Events.{eventList}
+use Rattle.records.specs.Records.{recordsOf}
+use Rattle.bootlog.specs.Replay.{saltInEffect, replayed, endValues}
+use Rattle.bootlog.specs.Check.{endsOf, logRecords, checkedAt, checkOf, checkBuffer}
+use Rattle.bootlog.proofs.Verdicts.{check-answer}
+use Rattle.bootlog.proofs.Recorded.{recorded}
 
 -- For each salt, each digest length and each message up to the limit, one-shot is accepted and the buffer's first m/8 bytes become the digest.
 module _ (m : ℕ) (salt xs out : List ℕ) (ok : allowed m ≡ true) (fits : saltFits (familyOf m) salt ≡ true) (within : length xs ≤ limit) (room : m / 8 ≤ length out) where
@@ -36,11 +39,12 @@ module _ (m : ℕ) (salt xs out : List ℕ) (ok : allowed m ≡ true) (fits : sa
       let r = le-ltb (length out) (m / 8) room in
       (rw (ok, fits, l, r), rw (ok, fits, l, r))
 
--- Registers worked out from a log are those that the rule gives, event by event: `replayed` replaces one register an event.
-module _ (log out : List ℕ) (at : Layout) (e : readingOf log ≡ Whole at) (room : 32 * at .registers ≤ length out) where
+-- Registers worked out from a log are those that the rule gives, event by event: `replayed` replaces one register an event. Each stands in its record, with
+-- the number of the log's events that extended it behind it.
+module _ (log out : List ℕ) (at : Layout) (e : readingOf log ≡ Whole at) (room : 34 * at .registers ≤ length out) where
   pub registers-right : (checkNumber (checkOf log (length out)) ≡ 0)
-      × (checkBuffer log out ≡ replayed (saltInEffect (saltOf log at)) (eventList (at .events) (eventsOf log at)) (startsOf log at) ++ drop (32 * at .registers) out)
-  unfolding checkedAt endsOf endValues
-  registers-right =
-      let r = le-ltb (length out) (32 * at .registers) room in
-      (rw (← check-answer log at e (length out) refl, r), rw (← check-buffer log at e out refl, r))
+      × (checkBuffer log out
+      ≡ recordsOf (replayed (saltInEffect (saltOf log at)) (eventList (at .events) (eventsOf log at)) (startsOf log at)) (eventList (at .events) (eventsOf log at)) (at .registers)
+      ++ drop (34 * at .registers) out)
+  unfolding checkedAt logRecords endsOf endValues
+  registers-right = (rw (← check-answer log at e (length out) refl, le-ltb (length out) (34 * at .registers) room), recorded log at e out room)

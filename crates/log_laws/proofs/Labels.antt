@@ -15,10 +15,13 @@ use Rattle.answers.specs.declared.reading.Reading.the-variants as reading
 use Rattle.fields.specs.Fields.{numberIn, numberAt}
 use Rattle.layout.specs.Layout.{andThen, reads, sectionEnd, saltEnd, registersEnd, eventsEnd, eventSectionEnd, claimsEnd, readingOf}
 use Rattle.layout.specs.Layout.{saltOf, startsOf, eventsOf, claimsOf}
-use Rattle.bootlog.specs.Replay.{eventList, saltInEffect, replayed, endValues}
-use Rattle.bootlog.specs.Check.{endsOf, verdictOf, checkedAt, checkOf, checkBuffer}
+use Rattle.records.specs.Events.{eventList, extensions}
+use Rattle.bootlog.specs.Replay.{saltInEffect, replayed, endValues}
+use Rattle.bootlog.specs.Check.{endsOf, logRecords, verdictOf, checkedAt, checkOf, checkBuffer}
 use Rattle.layout.proofs.Sections.{section, event-section}
 use Rattle.layout.proofs.Sizes.{counts}
+use Rattle.records.proofs.Counting.{eventAt, extensions-more}
+use Rattle.records.proofs.Banks.{records-equal}
 use Rattle.bootlog.proofs.Logs.{event-cons, log-blocks}
 use Rattle.bootlog.proofs.Verdicts.{check-answer, check-buffer, refused-answer, refused-buffer}
 use Rattle.log_laws.specs.Labels.{thirdAt, LabelByte, LabelsOnly}
@@ -134,6 +137,16 @@ module _ (log log′ : List ℕ) (d : LabelsOnly log log′) where
       let z : i + 36 ≡ thirdAt log + 2 + 36 * suc k = omega arith in
       rw (event-cons log n i, event-cons log′ n i, register-same k, part-same (i + 4) 32 (omega arith), z) (replay-same salt n (suc k) _)
 
+  -- and so does the count of extensions
+  extensions-same : (r n k : ℕ)
+      → extensions r (eventList n (take (36 * n) (drop (thirdAt log + 2 + 36 * k) log))) ≡ extensions r (eventList n (take (36 * n) (drop (thirdAt log + 2 + 36 * k) log′)))
+  unfolding eventList
+  extensions-same r zero k = refl
+  extensions-same r (suc n) k =
+      let i = thirdAt log + 2 + 36 * k in
+      let z : i + 36 ≡ thirdAt log + 2 + 36 * suc k = omega arith in
+      rw (event-cons log n i, event-cons log′ n i, extensions-more r (eventAt log i), extensions-more r (eventAt log′ i), register-same k, z, extensions-same r n (suc k))
+
   -- the sections of a log that was read, and what the check makes of them
   module _ (at : Layout) (e : readingOf log ≡ reading.Whole at) (e′ : readingOf log′ ≡ reading.Whole at) where
     third-read : at .third ≡ thirdAt log
@@ -162,6 +175,12 @@ module _ (log log′ : List ℕ) (d : LabelsOnly log log′) where
         let z : at .third + 2 ≡ thirdAt log + 2 + 36 * 0 = omega (arith, third-read) in
         rw (salt-same, starts-same, z) (replay-same (saltInEffect (saltOf log′ at)) (at .events) 0 (startsOf log′ at))
 
+    records-same : logRecords log at ≡ logRecords log′ at
+    unfolding logRecords eventsOf
+    records-same =
+        let z : at .third + 2 ≡ thirdAt log + 2 + 36 * 0 = omega (arith, third-read) in
+        records-equal (endsOf log at) (endsOf log′ at) _ _ ends-same (λ r. rw z (extensions-same r (at .events) 0)) (at .registers)
+
     checked-same : (room : ℕ) → checkedAt log at room ≡ checkedAt log′ at room
     unfolding checkedAt verdictOf
     checked-same room = rw (log-blocks log at e, log-blocks log′ at e′, ends-same, claims-same)
@@ -179,7 +198,7 @@ labels-check log log′ d out = by (readingOf log′) (labels-reading log log′
         (sym (refused-answer log r e (length out)) ∙ refused-answer log′ r e′ (length out), sym (refused-buffer log r e out) ∙ refused-buffer log′ r e′ out)
     by (reading.Whole at) e e′ = (
       sym (check-answer log at e (length out) refl) ∙ check-answer log′ at e′ (length out) (checked-same log log′ d at e e′ (length out)),
-      check-buffer log′ at e′ out (rw (ends-same log log′ d at e e′) at (sym (check-buffer log at e out refl))),
+      check-buffer log′ at e′ out (rw (records-same log log′ d at e e′) at (sym (check-buffer log at e out refl))),
     )
 
 -- Another value for any byte of a label makes such a log.

@@ -7,7 +7,7 @@ const MOST: usize = layout::LONGEST + 1;
 pub fn print_check(file: i32) {
     let mut log = [0u8; MOST];
     let size = io::read_full(file, &mut log);
-    let mut lines = [0u8; 2048];
+    let mut lines = [0u8; printout::ROOM];
     let printed = printout::print(text::first(&log, size), &mut lines);
     io::write_all(STDOUT_FILENO, text::first(&lines, printed.length()));
 }

@@ -1,5 +1,5 @@
 -- The numbers of a check's answer are small: R at most 24, N at most 1,024, the register that differs below R.
-use mathlib.Core.Path.{_≡_, refl}
+use mathlib.Core.Path.{_≡_, refl, ap}
 use mathlib.Core.Bool.{Bool, true, false, cond}
 use mathlib.Core.List.{List}
 use Prim.Native.Nat.{ℕ, zero, suc, _+_, _*_, _≤_, _<_}
@@ -14,7 +14,7 @@ use Rattle.answers.specs.declared.checked.Verdict.the-variants.{NoClaim, Differ
 use Rattle.answers.specs.declared.checked.Checked.{Checked}
 use Rattle.answers.specs.declared.checked.Checked.the-variants as checked
 use Rattle.layout.specs.Layout.{readingOf, claimsOf}
-use Rattle.bootlog.specs.Replay.{registerAt}
+use Rattle.records.specs.Records.{registerAt, extensionsAt}
 use Rattle.fields.specs.Fields.{same}
 use Rattle.bootlog.specs.Check.{endsOf, compared, verdictOf, checkedAt, checkOf, checkBuffer}
 use Rattle.answers.specs.Checked.{checkRegisters}
@@ -23,6 +23,7 @@ use Rattle.answers.specs.declared.written.Written.the-variants.{Bytes, Refused}
 use Rattle.text.specs.Place.{placed}
 use Rattle.layout.proofs.Sizes.{counts}
 use Rattle.bootlog.proofs.Logs.{log-blocks}
+use Rattle.bootlog.proofs.Recorded.{recorded-number, few-extensions}
 use Rattle.printout.specs.Printout.{textOf, printoutOf, printOf}
 use Rattle.printout.specs.Wrote.{Room}
 use Rattle.printout.proofs.Lengths.{Register, Modest, text-length}
@@ -44,32 +45,42 @@ verdict-small log at h = by (eqb (at .claims) 0)
     by true = tt
     by false = compared-small (endsOf log at) (claimsOf log at) 0 (at .registers) (omega arith)
 
-pub modest : (log : List ℕ) → Modest (checkOf log 768)
+pub modest : (log : List ℕ) → Modest (checkOf log 816)
 unfolding checkOf checkedAt
 modest log = by (readingOf log) refl
   where
-    by : (x : Reading) → readingOf log ≡ x → Modest (checkOf log 768)
+    by : (x : Reading) → readingOf log ≡ x → Modest (checkOf log 816)
     by (reading.Refused r) e = rw (e, checkOf) tt
     by (reading.Whole at) e =
         let c = counts log at e in
-        rw (e, checkOf, le-ltb 768 (32 * at .registers) (omega (arith, c .most)), log-blocks log at e)
+        rw (e, checkOf, le-ltb 816 (34 * at .registers) (omega (arith, c .most)), log-blocks log at e)
         (c .most, c .events, omega (arith, c .events), verdict-small log at (c .most))
 
-few : (c : Checked) → Modest c → checkRegisters c ≤ 24
-few (checked.Accepted r n b v) h = h .0
-few (checked.Refused x) h = omega arith
+-- and so are the numbers of the records that it leaves
+few : (log : List ℕ) (r : ℕ) → r < checkRegisters (checkOf log 816) → extensionsAt (checkBuffer log (replicate 816 0)) r < 10000
+unfolding checkOf checkedAt
+few log r = by (readingOf log) refl
+  where
+    by : (x : Reading) → readingOf log ≡ x → r < checkRegisters (checkOf log 816) → extensionsAt (checkBuffer log (replicate 816 0)) r < 10000
+    by (reading.Refused x) e h = absurd (omega (arith, rw (e, checkOf) at h))
+    by (reading.Whole at) e h =
+        let room : 34 * at .registers ≤ 816 = omega (arith, counts log at e .most) in
+        let below : r < at .registers = rw (e, checkOf, le-ltb 816 (34 * at .registers) room) at h in
+        omega (arith, recorded-number log at e (replicate 816 0) room r below, few-extensions log at e r)
 
--- what a check answered and left in the bank, and so the room that its text needs
-module _ (log bank : List ℕ) {c : Checked} (e : c ≡ checkOf log 768) where
-  pub room : Room (replicate 2048 0) 0 (textOf c bank)
-  room = record { fits = omega (arith, text-length c bank (rw e (modest log))) }
+-- The longest text has at most 2,048 bytes.
+pub printout-length : (log : List ℕ) → length (printoutOf log) ≤ 2048
+unfolding printoutOf
+printout-length log = text-length (checkOf log 816) (checkBuffer log (replicate 816 0)) (modest log) (few log)
 
-  pub banked : 768 ≡ length bank → 32 * checkRegisters c ≤ length bank
-  banked h = omega (arith, few c (rw e (modest log)))
-
-  pub printed : bank ≡ checkBuffer log (replicate 768 0) → textOf c bank ≡ printoutOf log
+-- what a check answered and left in the buffer, and so the room that its text needs
+module _ (log records : List ℕ) {c : Checked} (e : c ≡ checkOf log 816) (b : records ≡ checkBuffer log (replicate 816 0)) where
+  pub printed : textOf c records ≡ printoutOf log
   unfolding printoutOf
-  printed b = rw (e, b)
+  printed = rw (e, b)
+
+  pub room : Room (replicate 2048 0) 0 (textOf c records)
+  room = record { fits = omega (arith, ap length printed, printout-length log) }
 
 -- what print answers and leaves, for a text of n bytes
 module _ (log out : List ℕ) {n : ℕ} (e : n ≡ length (printoutOf log)) where

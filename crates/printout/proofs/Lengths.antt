@@ -4,7 +4,7 @@ use mathlib.Core.List.{List, [], _∷_, _++_}
 use Prim.Native.Nat.{ℕ, zero, suc, _+_, _*_, _/_, _%_, _^_, _≤_, _<_}
 use native.Mathlib.Omega.{arith}
 use lib.Dec.{eqb}
-use lib.ListN.{length, take, drop, length-append, length-take}
+use lib.ListN.{length, drop, length-append, length-take}
 use borrow.Author.Tests.{eq-eqb}
 use Rattle.answers.proofs.Numbers.{refusal-small}
 use Rattle.answers.specs.Refusal.{refusalNumber}
@@ -12,7 +12,8 @@ use Rattle.answers.specs.declared.checked.Verdict.{Verdict}
 use Rattle.answers.specs.declared.checked.Verdict.the-variants.{NoClaim, Agrees, Differs}
 use Rattle.answers.specs.declared.checked.Checked.{Checked}
 use Rattle.answers.specs.declared.checked.Checked.the-variants.{Accepted, Refused}
-use Rattle.bootlog.specs.Replay.{registerAt}
+use Rattle.answers.specs.Checked.{checkRegisters}
+use Rattle.records.specs.Records.{joined, valueAt, extensionsAt}
 use Rattle.text.specs.Digits.{decimalIn, decimalOf, hexOf}
 use Rattle.text.proofs.Storing.{hex-length}
 use Rattle.printout.specs.Printout.{space, feed, verdictText, registerLine, registerLines, spaced, textOf}
@@ -38,25 +39,37 @@ spaced-length : (n : ℕ) → n < 10000 → length (spaced n) ≤ 5
 unfolding spaced
 spaced-length n h = omega (arith, length-append (decimalOf n) space, decimal-length n h)
 
-module _ (bank : List ℕ) where
-  line-length : (r : ℕ) → r < 10000 → length (registerLine bank r) ≤ 70
-  unfolding registerLine registerAt
-  line-length r h =
-      let value = take 32 (drop (32 * r) bank) in
+module _ (records : List ℕ) where
+  value-length : (r : ℕ) → length (valueAt records r) ≤ 32
+  unfolding valueAt
+  value-length r = omega (arith, length-take 32 (drop (34 * r) records))
+
+  line-length : (r : ℕ) → r < 10000 → extensionsAt records r < 10000 → length (registerLine records r) ≤ 75
+  unfolding registerLine
+  line-length r h g =
+      let n = extensionsAt records r in
+      let value = valueAt records r in
       omega (
         arith,
-        length-append (decimalOf r) (space ++ (hexOf value ++ feed)),
+        length-append (spaced r) (spaced n ++ (hexOf value ++ feed)),
+        length-append (spaced n) (hexOf value ++ feed),
         length-append (hexOf value) feed,
-        decimal-length r h,
+        spaced-length r h,
+        spaced-length n g,
         hex-length value,
-        length-take 32 (drop (32 * r) bank),
+        value-length r,
       )
 
-  lines-length : (n : ℕ) → n ≤ 10000 → length (registerLines bank n) ≤ 70 * n
-  unfolding registerLines
-  lines-length zero h = omega arith
-  lines-length (suc n) h =
-      omega (arith, length-append (registerLines bank n) (registerLine bank n), lines-length n (omega arith), line-length n (omega arith))
+  lines-length : (n : ℕ) → n ≤ 10000 → ((r : ℕ) → r < n → extensionsAt records r < 10000) → length (registerLines records n) ≤ 75 * n
+  unfolding joined
+  lines-length zero h g = omega arith
+  lines-length (suc n) h g =
+      omega (
+        arith,
+        length-append (registerLines records n) (registerLine records n),
+        lines-length n (omega arith) (λ r p. g r (omega arith)),
+        line-length n (omega arith) (g n (omega arith)),
+      )
 
 -- the numbers of an answer are small
 abbrev pub Register : Verdict → Type 0
@@ -74,10 +87,10 @@ verdict-length NoClaim h = omega arith
 verdict-length Agrees h = omega arith
 verdict-length (Differs r) h = omega (arith, decimal-length r (omega arith))
 
-pub text-length : (c : Checked) (bank : List ℕ) → Modest c → length (textOf c bank) ≤ 2048
+pub text-length : (c : Checked) (records : List ℕ) → Modest c → ((r : ℕ) → r < checkRegisters c → extensionsAt records r < 10000) → length (textOf c records) ≤ 2048
 unfolding textOf
-text-length (Accepted r n b v) bank h =
-    let lines = registerLines bank r in
+text-length (Accepted r n b v) records h g =
+    let lines = registerLines records r in
     omega (
       arith,
       length-append (spaced r) (spaced n ++ (spaced b ++ (verdictText v ++ (feed ++ lines)))),
@@ -88,7 +101,7 @@ text-length (Accepted r n b v) bank h =
       spaced-length n (omega arith),
       spaced-length b (omega arith),
       verdict-length v (h .3),
-      lines-length bank r (omega arith),
+      lines-length records r (omega arith) g,
     )
-text-length (Refused x) bank h =
+text-length (Refused x) records h g =
     let n = refusalNumber x in omega (arith, length-append (decimalOf n) feed, decimal-length n (omega (arith, refusal-small x)))

@@ -6,7 +6,7 @@ use native.Mathlib.Omega.{arith}
 use lib.ListN.{length, take, drop, length-append}
 use lib.Seq.{length-sets, sets-eq, take-at}
 use borrow.Author.Tests.{le-leb}
-use Rattle.bootlog.specs.Replay.{registerAt}
+use Rattle.records.specs.Records.{joined}
 use Rattle.fields.proofs.Storing.{sets-sets}
 use Rattle.text.specs.Place.{placed, placeAfter}
 use Rattle.text.proofs.Storing.{place}
@@ -54,15 +54,10 @@ front {out} {xs} {out′} {n} w h =
 pub within : {out xs out′ : List ℕ} {n : ℕ} → Wrote out 0 xs out′ n → Room out 0 xs → n ≤ length out′
 within w h = omega (arith, w .place, sized w, h .fits)
 
--- a register's bytes, cut out of the bank
-pub cut : (bank : List ℕ) (r : ℕ) → take (32 * r + 32 - 32 * r) (drop (32 * r) bank) ≡ registerAt bank r
-unfolding registerAt
-cut bank r = let e : 32 * r + 32 - 32 * r ≡ 32 = omega arith in rw e
-
 -- the lines of the registers before, and one more
 module _ (bank : List ℕ) where
   lines-more : (r k : ℕ) → length (registerLines bank r) ≤ length (registerLines bank (r + k))
-  unfolding registerLines
+  unfolding joined
   lines-more r zero = let e : r + 0 ≡ r = omega arith in rw e (omega arith)
   lines-more r (suc k) =
       let e : r + suc k ≡ suc (r + k) = omega arith in
@@ -70,16 +65,16 @@ module _ (bank : List ℕ) where
 
   module _ (r : ℕ) {out out₁ : List ℕ} {at at₁ : ℕ} (w : Wrote out at (registerLines bank r) out₁ at₁) where
     pub next-room : (n : ℕ) → r < n → Room out at (registerLines bank n) → Room out₁ at₁ (registerLine bank r)
-    unfolding registerLines
+    unfolding joined
     next-room n h room =
         let e : suc r + (n - suc r) ≡ n = omega arith in
         let m : length (registerLines bank (suc r)) ≤ length (registerLines bank n) = rw e at (lines-more (suc r) (n - suc r)) in
         rest w (record { fits = omega (arith, m, room .fits) })
 
     pub next-line : {out₂ : List ℕ} {at₂ : ℕ} → Wrote out₁ at₁ (registerLine bank r) out₂ at₂ → Wrote out at (registerLines bank (r + 1)) out₂ at₂
-    unfolding registerLines
+    unfolding joined
     next-line v = let e : r + 1 ≡ suc r = omega arith in rw e (both w v)
 
   pub no-line : (out : List ℕ) (at : ℕ) → Wrote out at (registerLines bank 0) out at
-  unfolding registerLines
+  unfolding joined
   no-line out at = record { place = omega arith; buffer = refl }

@@ -1,7 +1,7 @@
--- The text of one check (document 01, "Cases at the edges"), in ASCII. Numbers are decimal.
+-- The text of one check (document 01, "Cases at the edges", and document 02, Four), in ASCII. Numbers are decimal.
 use mathlib.Core.Bool.{cond}
 use mathlib.Core.List.{List, [], _∷_, _++_}
-use Prim.Native.Nat.{ℕ, zero, suc}
+use Prim.Native.Nat.{ℕ}
 use lib.Dec.{ltb}
 use lib.ListN.{length, replicate}
 use Rattle.answers.specs.declared.refusal.Refusal.the-variants.{BufferShort}
@@ -12,7 +12,7 @@ use Rattle.answers.specs.declared.checked.Verdict.{Verdict}
 use Rattle.answers.specs.declared.checked.Verdict.the-variants.{NoClaim, Agrees, Differs}
 use Rattle.answers.specs.declared.checked.Checked.{Checked}
 use Rattle.answers.specs.declared.checked.Checked.the-variants.{Accepted, Refused}
-use Rattle.bootlog.specs.Replay.{registerAt}
+use Rattle.records.specs.Records.{joined, valueAt, extensionsAt}
 use Rattle.bootlog.specs.Check.{checkOf, checkBuffer}
 use Rattle.text.specs.Digits.{decimalOf, hexOf}
 
@@ -45,27 +45,26 @@ verdictText NoClaim = noclaimWord
 verdictText Agrees = agreesWord
 verdictText (Differs r) = differsWord ++ decimalOf r
 
--- A register's line: number, value in lower-case hex, byte 0 first.
-unfoldable pub registerLine : List ℕ → ℕ → List ℕ
-registerLine bank r = decimalOf r ++ (space ++ (hexOf (registerAt bank r) ++ feed))
-
--- Then one line per register from 0 up: the lines of the first n.
-unfoldable pub registerLines : List ℕ → ℕ → List ℕ
-registerLines bank zero = []
-registerLines bank (suc n) = registerLines bank n ++ registerLine bank n
-
 -- a number and the space behind it
 unfoldable pub spaced : ℕ → List ℕ
 spaced n = decimalOf n ++ space
 
+-- A register's line: number, extensions, value in lower-case hex, byte 0 first.
+unfoldable pub registerLine : List ℕ → ℕ → List ℕ
+registerLine records r = spaced r ++ (spaced (extensionsAt records r) ++ (hexOf (valueAt records r) ++ feed))
+
+-- Then one line per register from 0 up: the lines of the first n.
+abbrev pub registerLines : List ℕ → ℕ → List ℕ
+registerLines records n = joined (registerLine records) n
+
 -- Line 1: the word accepted, R, N, blocks compressed, verdict; then the registers. A refusal is the single line "refused 6" with its number.
 unfoldable pub textOf : Checked → List ℕ → List ℕ
-textOf (Accepted r n b v) bank = acceptedWord ++ (spaced r ++ (spaced n ++ (spaced b ++ (verdictText v ++ (feed ++ registerLines bank r)))))
-textOf (Refused x) bank = refusedWord ++ (decimalOf (refusalNumber x) ++ feed)
+textOf (Accepted r n b v) records = acceptedWord ++ (spaced r ++ (spaced n ++ (spaced b ++ (verdictText v ++ (feed ++ registerLines records r)))))
+textOf (Refused x) records = refusedWord ++ (decimalOf (refusalNumber x) ++ feed)
 
--- the text of a log's check; the bank has room for 24 registers, the most that a log has
+-- the text of a log's check; its buffer has room for 24 records, the most that a log has
 unfoldable pub printoutOf : List ℕ → List ℕ
-printoutOf log = textOf (checkOf log 768) (checkBuffer log (replicate 768 0))
+printoutOf log = textOf (checkOf log 816) (checkBuffer log (replicate 816 0))
 
 -- The answer of print into a buffer of so many bytes: the text's length, or 5 where there is less room.
 unfoldable pub printOf : List ℕ → ℕ → Written

@@ -1,8 +1,6 @@
 // The text of one check: what the programs print.
 ghost use mathlib.Core.Path.{_≡_};
-ghost use Prim.Native.Nat.{_+_, _*_, _≤_};
 ghost use lib.ListN.{length};
-ghost use Rattle.answers.specs.Checked.{checkRegisters};
 ghost use Rattle.text.specs.Digits.{decimalOf, hexOf};
 ghost use Rattle.text.specs.Place.{placed};
 ghost use Rattle.printout.specs.Printout.{verdictText, registerLine, registerLines, spaced, textOf, printoutOf, printOf};
@@ -11,6 +9,9 @@ use answers::Checked;
 use answers::Refusal;
 use answers::Verdict;
 use answers::Written;
+
+// A buffer of so many bytes is never too short for a check's text.
+pub const ROOM: usize = 2048;
 
 // The calls of text, where there is room.
 fn word(out: &mut [u8], at: usize, bytes: &[u8]) -> usize
@@ -56,37 +57,32 @@ fn verdict(out: &mut [u8], at: usize, found: Verdict) -> usize
     }
 }
 
-fn line(out: &mut [u8], at: usize, bank: &[u8], register: usize) -> usize
-    requires { ⌜ Room (now out) at (registerLine (now bank) register) ⌝ }
-    requires { ⌜ 32 * register + 32 ≤ length (now bank) ⌝ }
-    ensures { λ r. ⌜ Wrote (now (out .entry)) at (registerLine (now (bank .entry)) register) (now (out .exit)) r ⌝ }
+fn line(out: &mut [u8], at: usize, records: &[u8], register: usize) -> usize
+    requires { ⌜ Room (now out) at (registerLine (now records) register) ⌝ }
+    ensures { λ r. ⌜ Wrote (now (out .entry)) at (registerLine (now (records .entry)) register) (now (out .exit)) r ⌝ }
 {
-    let from = 32 * register;
-    let to = from + 32;
-    let a = number(out, at, register);
-    let b = word(out, a, b" ");
-    let c = hex(out, b, &bank[from..to]);
+    let a = spaced_number(out, at, register);
+    let b = spaced_number(out, a, records::extensions_at(records, register));
+    let c = hex(out, b, records::value_at(records, register));
     word(out, c, b"\n")
 }
 
-fn lines(out: &mut [u8], at: usize, bank: &[u8], count: usize) -> usize
-    requires { ⌜ Room (now out) at (registerLines (now bank) count) ⌝ }
-    requires { ⌜ 32 * count ≤ length (now bank) ⌝ }
-    ensures { λ r. ⌜ Wrote (now (out .entry)) at (registerLines (now (bank .entry)) count) (now (out .exit)) r ⌝ }
+fn lines(out: &mut [u8], at: usize, records: &[u8], count: usize) -> usize
+    requires { ⌜ Room (now out) at (registerLines (now records) count) ⌝ }
+    ensures { λ r. ⌜ Wrote (now (out .entry)) at (registerLines (now (records .entry)) count) (now (out .exit)) r ⌝ }
 {
     let mut behind = at;
     let mut register = 0;
     while register < count {
-        behind = line(out, behind, bank, register);
+        behind = line(out, behind, records, register);
         register += 1;
     }
     behind
 }
 
-fn compose(out: &mut [u8], bank: &[u8], checked: Checked) -> usize
-    requires { ⌜ Room (now out) 0 (textOf checked (now bank)) ⌝ }
-    requires { ⌜ 32 * checkRegisters checked ≤ length (now bank) ⌝ }
-    ensures { λ r. ⌜ Wrote (now (out .entry)) 0 (textOf checked (now (bank .entry))) (now (out .exit)) r ⌝ }
+fn compose(out: &mut [u8], records: &[u8], checked: Checked) -> usize
+    requires { ⌜ Room (now out) 0 (textOf checked (now records)) ⌝ }
+    ensures { λ r. ⌜ Wrote (now (out .entry)) 0 (textOf checked (now (records .entry))) (now (out .exit)) r ⌝ }
 {
     match checked {
         Checked::Accepted(registers, events, blocks, found) => {
@@ -96,7 +92,7 @@ fn compose(out: &mut [u8], bank: &[u8], checked: Checked) -> usize
             let d = spaced_number(out, c, blocks);
             let e = verdict(out, d, found);
             let f = word(out, e, b"\n");
-            lines(out, f, bank, registers)
+            lines(out, f, records, registers)
         }
         Checked::Refused(refusal) => {
             let a = word(out, 0, b"refused ");
@@ -111,10 +107,10 @@ pub fn print(log: &[u8], out: &mut [u8]) -> Written
     ensures result { λ r. ⌜ r ≡ printOf (now (log .entry)) (length (now (out .entry))) ⌝ }
     ensures buffer { λ r. ⌜ now (out .exit) ≡ placed (now (out .entry)) 0 (printoutOf (now (log .entry))) ⌝ }
 {
-    let mut bank = [0u8; bootlog::ROOM];
-    let checked = bootlog::check(log, &mut bank);
-    let mut whole = [0u8; 2048];
-    let n = compose(&mut whole, &bank, checked);
+    let mut records = [0u8; bootlog::ROOM];
+    let checked = bootlog::check(log, &mut records);
+    let mut whole = [0u8; ROOM];
+    let n = compose(&mut whole, &records, checked);
     if out.len() < n {
         return Written::Refused(Refusal::BufferShort);
     }

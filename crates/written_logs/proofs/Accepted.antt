@@ -13,14 +13,16 @@ use Rattle.answers.specs.declared.reading.Reading.the-variants.{Whole}
 use Rattle.answers.specs.declared.checked.Verdict.the-variants.{NoClaim, Agrees}
 use Rattle.answers.specs.declared.checked.Checked.the-variants.{Accepted}
 use Rattle.layout.specs.Layout.{readingOf}
-use Rattle.layout.proofs.Sizes.{counts, starts-length}
+use Rattle.layout.proofs.Sizes.{counts}
+use Rattle.records.specs.Events.{eventRun}
+use Rattle.records.specs.Records.{recordsOf}
 use Rattle.bootlog.specs.Replay.{endValues}
 use Rattle.bootlog.specs.Check.{endsOf, verdictOf, checkedAt, checkOf, checkBuffer}
 use Rattle.bootlog.proofs.Logs.{log-blocks}
 use Rattle.bootlog.proofs.Verdicts.{no-claim, check-answer}
 use Rattle.logger.specs.Write.{registersIn, eventsIn, partsAnswer, claimsFor, logFor, writeAnswer, writeBuffer}
 use Rattle.logger.proofs.Parts.{spelled-ends, spelled-buffer}
-use Rattle.written_logs.proofs.Back.{placed, written-fit, written-read, written-starts, written-claims, parts-accepted, written-front}
+use Rattle.written_logs.proofs.Back.{placed, written-fit, written-read, written-claims, parts-accepted, written-front}
 use Rattle.written_logs.proofs.Comparing.{compared-self, verdict-claimed}
 
 -- the end values of the written log are those of its parts
@@ -52,25 +54,22 @@ module _ (salt starts events : List ℕ) (wish : Bool) (ok : partsAnswer salt st
   read : readingOf log ≡ Whole at
   read = written-read salt starts events wish ok
 
-  starts-sized : length starts ≡ 32 * registersIn starts
-  starts-sized = rw (written-starts salt starts events wish ok) at (starts-length log at read)
-
-  pub written-accepted : (room : ℕ) → length starts ≤ room
+  pub written-accepted : (room : ℕ) → 34 * registersIn starts ≤ room
       → checkOf (logFor salt starts events wish) room ≡ Accepted (registersIn starts) (eventsIn events) (2 * eventsIn events) (cond wish Agrees NoClaim)
   unfolding checkedAt
   written-accepted room h =
-      let room-fits = le-ltb room (32 * registersIn starts) (omega (arith, starts-sized)) in
-      sym (check-answer log at read room (rw (room-fits, log-blocks log at read, verdict-asked salt starts events wish ok)))
+      sym (check-answer log at read room (rw (le-ltb room (34 * registersIn starts) h, log-blocks log at read, verdict-asked salt starts events wish ok)))
 
-  -- and the check writes the end values, which are the claims where they are wished for
-  pub written-ends : (out : List ℕ) → length starts ≤ length out
-      → checkBuffer (logFor salt starts events wish) out ≡ endValues salt starts (eventsIn events) events ++ drop (length starts) out
+  -- and the check writes the records of the end values, which are the claims where they are wished for
+  pub written-records : (out : List ℕ) → 34 * registersIn starts ≤ length out
+      → checkBuffer (logFor salt starts events wish) out
+      ≡ recordsOf (endValues salt starts (eventsIn events) events) (eventRun events) (registersIn starts) ++ drop (34 * registersIn starts) out
   unfolding logFor
-  written-ends out h = spelled-buffer _ _ _ _ _ _ _ (written-fit salt starts events wish ok) out h
+  written-records out h = spelled-buffer _ _ _ _ _ _ _ (written-fit salt starts events wish ok) out h
 
 -- So the log that write leaves in a buffer is accepted by a check with room for its registers.
 pub written-checked : (salt starts events : List ℕ) (wish : Bool) (out : List ℕ) → writeAnswer salt starts events wish (length out) ≡ answer.Accepted
-    → (room : ℕ) → length starts ≤ room
+    → (room : ℕ) → 34 * registersIn starts ≤ room
     → checkOf (take (length (logFor salt starts events wish)) (writeBuffer salt starts events wish out)) room
     ≡ Accepted (registersIn starts) (eventsIn events) (2 * eventsIn events) (cond wish Agrees NoClaim)
 written-checked salt starts events wish out ok room h =

@@ -13,7 +13,7 @@ use Rattle.answers.specs.declared.reading.Layout.{Layout}
 use Rattle.answers.specs.declared.reading.Reading.the-variants.{Whole}
 use Rattle.answers.specs.declared.checked.Verdict.the-variants.{NoClaim, Agrees}
 use Rattle.layout.specs.Layout.{readingOf, saltOf, startsOf, eventsOf, claimsOf}
-use Rattle.bootlog.specs.Replay.{Event, eventList}
+use Rattle.records.specs.Events.{Event, eventList}
 use Rattle.bootlog.specs.Check.{endsOf, verdictOf}
 use Rattle.fields.proofs.Numbers.{bytes}
 use Rattle.layout.proofs.Sections.{one-of, within}

@@ -12,7 +12,7 @@ use Rattle.fields.specs.Fields.{same}
 use Rattle.layout.specs.Layout.{claimsOf}
 use Rattle.fields.proofs.Parts.{part-join}
 use Rattle.fields.proofs.Comparing.{same-self, same-equal}
-use Rattle.bootlog.specs.Replay.{registerAt}
+use Rattle.records.specs.Records.{registerAt}
 use Rattle.bootlog.specs.Check.{endsOf, compared, verdictOf}
 
 pub compared-self : (xs : List ℕ) (r n : ℕ) → compared xs xs r n ≡ Agrees

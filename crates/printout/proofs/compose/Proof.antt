@@ -1,12 +1,10 @@
 -- Line 1 piece by piece and the registers' lines behind it; or the line of a refusal.
-use mathlib.Core.Path.{ap, sym, subst}
+use mathlib.Core.Path.{ap, sym}
 use mathlib.Core.List.{List, _++_}
-use Prim.Native.Nat.{ℕ, _*_, _≤_}
-use lib.ListN.{length}
+use Prim.Native.Nat.{ℕ}
 use borrow.Author.Needs.{needs}
 use Rattle.answers.specs.Refusal.{refusalNumber}
 use Rattle.answers.specs.declared.checked.Checked.{Checked}
-use Rattle.answers.specs.Checked.{checkRegisters}
 use Rattle.text.specs.Digits.{decimalOf}
 use Rattle.printout.specs.Printout.{feed, acceptedWord, refusedWord, verdictText, registerLines, spaced, textOf}
 use Rattle.printout.specs.Wrote.{Room, Wrote}
@@ -19,7 +17,7 @@ abbrev start : tie.After-checked → tie.Start
 start k = k .before .before .before .before
 
 abbrev afterVerdict : tie.After-checked → List ℕ
-afterVerdict k = feed ++ registerLines (start k .args .bank .now) (k .checked .given .0 .0)
+afterVerdict k = feed ++ registerLines (start k .args .records .now) (k .checked .given .0 .0)
 
 abbrev afterBlocks : tie.After-checked → List ℕ
 afterBlocks k = verdictText (k .checked .given .0 .1 .1 .1 .0) ++ afterVerdict k
@@ -35,7 +33,7 @@ afterWord k = spaced (k .checked .given .0 .0) ++ afterRegisters k
 
 room : (k : tie.After-checked) → Room (start k .args .out .now) 0 (acceptedWord ++ afterWord k)
 unfolding textOf
-room k = same-room (ap (λ (x : Checked). textOf x (start k .args .bank .now)) (k .checked .given .1)) (start k .pre .0)
+room k = same-room (ap (λ (x : Checked). textOf x (start k .args .records .now)) (k .checked .given .1)) (start k .pre)
 
 -- from each call back to the match
 abbrev k1 : tie.After-word → tie.After-checked
@@ -91,13 +89,12 @@ word-requires-2 : tie.Need-word-requires-2
 word-requires-2 c κs =
     let w = c .before .before .before .before in
     let k = k5 w in
-    first {xs = feed} (registerLines (start k .args .bank .now) (k .checked .given .0 .0)) (room5 w)
+    first {xs = feed} (registerLines (start k .args .records .now) (k .checked .given .0 .0)) (room5 w)
 
 lines-requires : tie.Need-lines-requires
 lines-requires c κs =
     let w = c .before .before .before in
-    let k = k6 w in
-    (rest (w .word2 .ensures) (room5 (w .before .before .before .before .before)), subst (λ (x : Checked). 32 * checkRegisters x ≤ length (start k .args .bank .now)) (k .checked .given .1) (start k .pre .1))
+    rest (w .word2 .ensures) (room5 (w .before .before .before .before .before))
 
 returns : tie.Need-returns
 unfolding textOf
@@ -123,7 +120,7 @@ numberText k = decimalOf (refusalNumber (k .checked2 .given .0 .0))
 
 roomR : (k : tie.After-checked2) → Room (begin k .args .out .now) 0 (refusedWord ++ (numberText k ++ feed))
 unfolding textOf
-roomR k = same-room (ap (λ (x : Checked). textOf x (begin k .args .bank .now)) (k .checked2 .given .1)) (begin k .pre .0)
+roomR k = same-room (ap (λ (x : Checked). textOf x (begin k .args .records .now)) (k .checked2 .given .1)) (begin k .pre)
 
 word-requires-3 : tie.Need-word-requires-3
 word-requires-3 c κs = let k = c .before .before .before in first {xs = refusedWord} (numberText k ++ feed) (roomR k)

@@ -1,79 +1,82 @@
--- The number, a space, the register's bytes and the line feed, one behind the other.
+-- The register's number, its extensions, its value's bytes and the line feed, one behind the other.
 use mathlib.Core.Path.{ap, sym}
 use mathlib.Core.List.{List, _++_}
 use Prim.Native.Nat.{ℕ}
-use native.Mathlib.Omega.{arith}
 use borrow.Author.Needs.{needs}
-use Rattle.bootlog.specs.Replay.{registerAt}
-use Rattle.text.specs.Digits.{decimalOf, hexOf}
-use Rattle.printout.specs.Printout.{space, feed, registerLine}
+use Rattle.records.specs.Records.{valueAt, extensionsAt}
+use Rattle.text.specs.Digits.{hexOf}
+use Rattle.printout.specs.Printout.{feed, spaced, registerLine}
 use Rattle.printout.specs.Wrote.{Room, Wrote}
-use Rattle.printout.proofs.Writing.{both, rest, same-room, same-wrote, first, cut}
+use Rattle.printout.proofs.Writing.{both, rest, same-room, same-wrote, first}
 use Rattle.printout.proofs.line.Statement.{statement}
 use Rattle.printout.proofs.line.Tie as tie
 
+abbrev extended : tie.Start → List ℕ
+extended s = spaced (extensionsAt (s .args .records .now) (s .args .register))
+
 abbrev value : tie.Start → List ℕ
-value s = hexOf (registerAt (s .args .bank .now) (s .args .register))
+value s = hexOf (valueAt (s .args .records .now) (s .args .register))
 
-room : (s : tie.Start) → Room (s .args .out .now) (s .args .at) (decimalOf (s .args .register) ++ (space ++ (value s ++ feed)))
+room : (s : tie.Start) → Room (s .args .out .now) (s .args .at) (spaced (s .args .register) ++ (extended s ++ (value s ++ feed)))
 unfolding registerLine
-room s = s .pre .0
+room s = s .pre
 
-number-requires : tie.Need-number-requires
-number-requires c κs = let s = c .before .before .before in first (space ++ (value s ++ feed)) (room s)
+spaced-number-requires : tie.Need-spaced-number-requires
+spaced-number-requires c κs = let s = c .before .before .before in first (extended s ++ (value s ++ feed)) (room s)
 
--- what is left behind the number, behind the space, and behind the value
-behind-number : (c : tie.After-number) → Room (c .number .last .0) (c .number .result) (space ++ (value (c .before .before .before .before) ++ feed))
-behind-number c = rest (c .number .ensures) (room (c .before .before .before .before))
+-- from each call back to the start
+abbrev s1 : tie.After-spaced-number → tie.Start
+s1 c = c .before .before .before .before
 
-word-requires : tie.Need-word-requires
-word-requires c κs =
-    let n = c .before .before .before .before in
-    first {xs = space} (value (n .before .before .before .before) ++ feed) (behind-number n)
-
-abbrev toNumber : tie.After-word → tie.After-number
+abbrev toNumber : tie.After-spaced-number2 → tie.After-spaced-number
 toNumber c = c .before .before .before .before .before
 
-behind-space : (c : tie.After-word) → Room (c .word .last .0) (c .word .result) (value (toNumber c .before .before .before .before) ++ feed)
-behind-space c = rest (c .word .ensures) (behind-number (toNumber c))
+abbrev toExtensions : tie.After-hex → tie.After-spaced-number2
+toExtensions c = c .before .before .before .before .before
+
+-- what is left behind the number, behind the extensions, and behind the value
+behind-number : (c : tie.After-spaced-number) → Room (c .spaced-number .last .0) (c .spaced-number .result) (extended (s1 c) ++ (value (s1 c) ++ feed))
+behind-number c = rest (c .spaced-number .ensures) (room (s1 c))
+
+spaced-number-requires-2 : tie.Need-spaced-number-requires-2
+spaced-number-requires-2 c κs =
+    let n = c .before .before .before .before in
+    same-room (ap spaced (sym (c .extensions-at .ensures))) (first (value (s1 n) ++ feed) (behind-number n))
+
+numbered : (c : tie.After-spaced-number2)
+    → Wrote (toNumber c .spaced-number .last .0) (toNumber c .spaced-number .result) (extended (s1 (toNumber c))) (c .spaced-number2 .last .0) (c .spaced-number2 .result)
+numbered c = same-wrote (ap spaced (c .before .extensions-at .ensures)) (c .spaced-number2 .ensures)
+
+behind-extensions : (c : tie.After-spaced-number2) → Room (c .spaced-number2 .last .0) (c .spaced-number2 .result) (value (s1 (toNumber c)) ++ feed)
+behind-extensions c = rest (numbered c) (behind-number (toNumber c))
 
 hex-requires : tie.Need-hex-requires
-hex-requires c κs =
-    let w = c .before .before .before .before in
-    let a = toNumber w .before .before .before .before .args in
-    same-room (ap hexOf (sym (cut (a .bank .now) (a .register)))) (first feed (behind-space w))
+hex-requires c κs = same-room (ap hexOf (sym (c .value-at .ensures))) (first feed (behind-extensions (c .before .before .before .before)))
 
-abbrev toWord : tie.After-hex → tie.After-word
-toWord c = c .before .before .before .before .before
+hexed : (c : tie.After-hex)
+    → Wrote (toExtensions c .spaced-number2 .last .0) (toExtensions c .spaced-number2 .result) (value (s1 (toNumber (toExtensions c)))) (c .hex .last .0) (c .hex .result)
+hexed c = same-wrote (ap hexOf (c .before .value-at .ensures)) (c .hex .ensures)
 
-hexed : (c : tie.After-hex) → Wrote (toWord c .word .last .0) (toWord c .word .result) (value (toNumber (toWord c) .before .before .before .before)) (c .hex .last .0) (c .hex .result)
-hexed c =
-    let a = toNumber (toWord c) .before .before .before .before .args in
-    same-wrote (ap hexOf (cut (a .bank .now) (a .register))) (c .hex .ensures)
-
-word-requires-2 : tie.Need-word-requires-2
-word-requires-2 c κs = let h = c .before .before .before .before in rest (hexed h) (behind-space (toWord h))
+word-requires : tie.Need-word-requires
+word-requires c κs = let h = c .before .before .before .before in rest (hexed h) (behind-extensions (toExtensions h))
 
 returns : tie.Need-returns
 unfolding registerLine
 returns c =
     let h = c .before .before .before .before .before .before .before in
-    both (toNumber (toWord h) .number .ensures) (both (toWord h .word .ensures) (both (hexed h) (c .before .before .word2 .ensures)))
+    let n = toExtensions h in
+    both (toNumber n .spaced-number .ensures) (both (numbered n) (both (hexed h) (c .before .before .word .ensures)))
 
 pub line-spec : {M : Type 1} → statement M
 line-spec =
     tie.close
     (tie.spec
-    (λ c. omega (arith, c .before .before .pre .1))
-    (λ c. omega (arith, c .before .before .pre .1))
-    number-requires
-    (λ c. search needs)
-    word-requires
-    (λ c. search needs)
-    (λ c. search needs)
-    (λ c. search needs)
+    spaced-number-requires
+    (λ c κs. search needs)
+    spaced-number-requires-2
+    (λ c κs. search needs)
     hex-requires
     (λ c. search needs)
-    word-requires-2
+    word-requires
     (λ c. search needs)
     returns)

@@ -10,25 +10,25 @@ use Rattle.printout.proofs.lines.Statement.{statement}
 use Rattle.printout.proofs.lines.Tie as tie
 
 abbrev Inv-loop : tie.InvT-loop
-Inv-loop out₀ at bank count behind₀ register₀ out behind register =
-    (register ≤ count) × Wrote out₀ at (registerLines bank register) out behind
+Inv-loop out₀ at records count behind₀ register₀ out behind register =
+    (register ≤ count) × Wrote out₀ at (registerLines records register) out behind
 
 abbrev μ-loop : tie.MeasureT-loop
-μ-loop out₀ at bank count behind₀ register₀ out behind register = count - register
+μ-loop out₀ at records count behind₀ register₀ out behind register = count - register
 
 loop-holds : tie.Need-loop-holds Inv-loop μ-loop
-loop-holds c = let a = c .before .before .args in (omega arith, no-line (a .bank .now) (a .out .now) (a .at))
+loop-holds c = let a = c .before .before .args in (omega arith, no-line (a .records .now) (a .out .now) (a .at))
 
 line-requires : tie.Need-line-requires Inv-loop μ-loop
 line-requires c κs =
     let l = c .before .before in
     let s = l .before .before .before in
-    (next-room (s .args .bank .now) (l .loop .register) (l .loop .inv .1) (s .args .count) (c .before .loop-test .taken) (s .pre .0), omega (arith, s .pre .1))
+    next-room (s .args .records .now) (l .loop .register) (l .loop .inv .1) (s .args .count) (c .before .loop-test .taken) (s .pre)
 
 loop-again : tie.Need-loop-again Inv-loop μ-loop
 loop-again c =
     let l = c .before .before .before .before .before in
-    (omega arith, next-line (l .before .before .before .args .bank .now) (l .loop .register) (l .loop .inv .1) (c .before .before .line .ensures))
+    (omega arith, next-line (l .before .before .before .args .records .now) (l .loop .register) (l .loop .inv .1) (c .before .before .line .ensures))
 
 returns : tie.Need-returns Inv-loop μ-loop
 returns c =

@@ -6,18 +6,16 @@ use lib.ListN.{length}
 use lib.Seq.{length-take-le}
 use borrow.Author.Needs.{needs}
 use Rattle.text.proofs.Storing.{same-text}
-use Rattle.printout.specs.Printout.{printoutOf}
+use Rattle.printout.specs.Printout.{textOf, printoutOf}
 use Rattle.printout.proofs.Writing.{front, within}
-use Rattle.printout.proofs.Bounds.{room, banked, printed, print-short, print-put}
+use Rattle.printout.proofs.Bounds.{room, printed, print-short, print-put}
 use Rattle.printout.proofs.print.Statement.{statement}
 use Rattle.printout.proofs.print.Tie as tie
 
 compose-requires : tie.Need-compose-requires
 compose-requires c κs =
     let k = c .before .before .before in
-    let log = k .before .before .before .before .args .log .now in
-    let e = k .check .ensures .0 in
-    (room log _ e, banked log (k .check .last .1 .0) e (search needs))
+    room (k .before .before .before .before .args .log .now) _ (k .check .ensures .0) (k .check .ensures .1)
 
 abbrev start : tie.After-compose → tie.Start
 start d = d .before .before .before .before .before .before .before .before
@@ -25,14 +23,16 @@ start d = d .before .before .before .before .before .before .before .before
 abbrev checked : tie.After-compose → tie.After-check
 checked d = d .before .before .before .before
 
+-- what compose put is the text of the log's check
+whole : (d : tie.After-compose) → textOf (checked d .check .result) (checked d .check .last .1 .0) ≡ printoutOf (start d .args .log .now)
+whole d = printed (start d .args .log .now) _ (checked d .check .ensures .0) (checked d .check .ensures .1)
+
 -- the length that compose answers is the text's
 sized : (d : tie.After-compose) → d .compose .result ≡ length (printoutOf (start d .args .log .now))
-sized d =
-    let e = checked d .check .ensures in
-    omega (arith, d .compose .ensures .place, ap length (printed (start d .args .log .now) _ (e .0) (e .1)))
+sized d = omega (arith, d .compose .ensures .place, ap length (whole d))
 
 fits : (d : tie.After-compose) → d .compose .result ≤ length (d .compose .last .0)
-fits d = within (d .compose .ensures) (room (start d .args .log .now) _ (checked d .check .ensures .0))
+fits d = within (d .compose .ensures) (room (start d .args .log .now) _ (checked d .check .ensures .0) (checked d .check .ensures .1))
 
 returns : tie.Need-returns
 returns c =
@@ -45,7 +45,7 @@ returns-2 c =
     let d = b .before .before in
     let a = start d .args in
     let e = checked d .check .ensures in
-    let text = front (d .compose .ensures) (room (a .log .now) _ (e .0)) ∙ printed (a .log .now) _ (e .0) (e .1) in
+    let text = front (d .compose .ensures) (room (a .log .now) _ (e .0) (e .1)) ∙ whole d in
     print-put (a .log .now) (a .out .now) (sized d) (b .if1 .left) (same-text (a .out .now) 0 text (c .before .before .put .ensures) .1)
 
 pub print-spec : {M : Type 1} → statement M
