@@ -5,7 +5,7 @@ use crate::hash::Family;
 use crate::lines::{hex, state_text, write_text};
 use crate::random::Random;
 use crate::write::Lent;
-use crate::{cases_log, cases_message, cases_saved, cases_state, cases_write};
+use crate::{cases_log, cases_message, cases_records, cases_saved, cases_state, cases_write};
 
 pub const FAMILIES: [Family; 2] = [Family::Small, Family::Large];
 
@@ -105,6 +105,7 @@ pub fn text() -> String {
     cases_saved::write(&mut w);
     unreadable(&mut w);
     cases_write::write(&mut w);
+    cases_records::write(&mut w);
     w.text
 }
 

@@ -2,6 +2,7 @@
 
 use crate::cases::Writer;
 use crate::lines::{hex, write_text, LINE_MOST};
+use crate::log::RECORD_BYTES;
 use crate::parts::{contents, Parts, VALUE_BYTES};
 use crate::random::Random;
 use crate::samples;
@@ -53,18 +54,28 @@ fn some(w: &mut Writer, registers: usize, events: usize, claims: bool) -> Lent {
     Lent::of(&some_parts(w, registers, events), claims)
 }
 
-/// A log written into a buffer that has so many bytes more than it, then checked: mostly with room
-/// for its registers alone, now and then with more or with one byte less.
-fn written(w: &mut Writer, lent: &Lent, more: usize) {
-    let exact = lent.registers.len();
-    let room = w.random.one_of(&[exact, exact, exact, exact, exact + 1, exact + 40, exact - 1]);
-    written_and_checked(w, lent, more, room);
+/// Bytes of the records that the check stores for the log written.
+fn record_room(lent: &Lent) -> usize {
+    RECORD_BYTES * (lent.registers.len() / VALUE_BYTES)
 }
 
-fn written_and_checked(w: &mut Writer, lent: &Lent, more: usize, check_room: usize) {
+/// A log written into a buffer that has so many bytes more than it, then checked: mostly with room
+/// for its records alone, else with more; now and then once more with one byte less.
+fn written(w: &mut Writer, lent: &Lent, more: usize) {
+    let exact = record_room(lent);
+    let room = w.random.one_of(&[exact, exact, exact, exact, exact + 1, exact + 40]);
+    let log = written_and_checked(w, lent, more, room);
+    if w.random.below(7) == 0 {
+        w.check(&log, exact - 1);
+    }
+}
+
+/// The log that was written and checked.
+fn written_and_checked(w: &mut Writer, lent: &Lent, more: usize, check_room: usize) -> Vec<u8> {
     let log = log_of(lent).expect("parts of a log");
     w.write(lent, log.len() + more);
     w.check(&log, check_room);
+    log
 }
 
 /// A call that is refused with this number.
@@ -358,10 +369,9 @@ fn orders(w: &mut Writer) {
 /// A log checked, then written again from its sections and checked again.
 fn again(w: &mut Writer, log: &[u8], more: usize) {
     let [salt, registers, events, claims] = contents(log);
-    let room = registers.len();
     let lent = Lent { salt, registers, events, claims: !claims.is_empty() };
     assert_eq!(log_of(&lent).as_deref(), Ok(log));
-    w.check(log, room);
+    w.check(log, record_room(&lent));
     written(w, &lent, more);
 }
 
@@ -393,11 +403,11 @@ fn random_ones(w: &mut Writer) {
 fn long_logs(w: &mut Writer) {
     w.comment("the longest log: salted, 24 registers, 1,024 events, claims");
     let lent = Lent::of(&Parts::random(&mut w.random, true, 24, 1024), true);
-    written_and_checked(w, &lent, 0, 768);
+    written_and_checked(w, &lent, 0, record_room(&lent));
     w.comment("1,024 events of one register, no salt, no claims, the longest buffer");
     let lent = Lent::of(&Parts::random(&mut w.random, false, 1, 1024), false);
     let log_bytes = log_of(&lent).expect("parts of a log").len();
-    written_and_checked(w, &lent, 40_000 - log_bytes, 32);
+    written_and_checked(w, &lent, 40_000 - log_bytes, record_room(&lent));
     w.comment("one byte more than 1,024 events, and 1,025; the buffer is short too");
     let mut longer = lent;
     longer.events.push(0);

@@ -4,6 +4,7 @@
 mod cases;
 mod cases_log;
 mod cases_message;
+mod cases_records;
 mod cases_saved;
 mod cases_state;
 mod cases_write;
@@ -18,6 +19,7 @@ mod runs;
 mod samples;
 mod saved;
 mod selftest;
+mod selftest_records;
 mod selftest_write;
 mod stage;
 mod sum;

@@ -9,6 +9,7 @@ use crate::log::printed_check;
 use crate::printed::{salt_byte, Message, What, TABLE};
 use crate::samples::smallest;
 use crate::saved::{load, save};
+use crate::selftest_records::record_values;
 use crate::selftest_write::write_values;
 use crate::stage;
 use crate::sum;
@@ -31,7 +32,7 @@ const COUNTERS: [(Family, usize, &[u128]); 12] = [
 
 /// What the 40-byte log prints.
 const SMALLEST_PRINT: &str = "accepted 1 0 0 noclaim\n\
-    0 0000000000000000000000000000000000000000000000000000000000000000\n";
+    0 0 0000000000000000000000000000000000000000000000000000000000000000\n";
 
 /// First word of the unsalted 256-bit million-A digest with counter 0 on the padding-only block.
 const MILLION_A_BY_RULE: u32 = 0x0738_AC34;
@@ -134,6 +135,7 @@ pub fn run() -> (String, bool) {
     saved_values(&mut tally);
     stage_values(&mut tally);
     write_values(&mut tally);
+    record_values(&mut tally);
     let mut text: String =
         tally.missed.iter().map(|label| format!("selftest: not met: {label}\n")).collect();
     text += &format!("selftest: {} values met\n", tally.met);

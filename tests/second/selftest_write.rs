@@ -9,6 +9,7 @@ use crate::random::Random;
 use crate::runs;
 use crate::samples::{lent_files, named};
 use crate::selftest::Tally;
+use crate::selftest_records::{columns, tallied};
 use crate::write::{asked, outcome, write_log, Asked, Lent, Outcome};
 use std::io::{Error, ErrorKind};
 
@@ -189,16 +190,19 @@ fn call_is(call: (usize, usize, usize, u16, usize, u8)) -> bool {
     })
 }
 
-/// Whether the log written is accepted with room for its registers, with this verdict, and its
-/// sections are the parts it was written from and the end values.
+/// Whether the log written is accepted with room for its records, with this verdict, its sections
+/// are the parts it was written from and the end values, and the numbers of extensions are right.
 fn accepted_as(lent: &Lent, verdict: Verdict) -> bool {
     let mut log = vec![0; LONGEST];
     let (number, length) = write_log(lent, &mut log);
     log.truncate(length);
-    let mut ends = vec![0; lent.registers.len()];
-    let answer = check(&log, &mut ends);
+    let registers = lent.registers.len() / 32;
+    let mut records = vec![0; 34 * registers];
+    let answer = check(&log, &mut records);
+    let (ends, extensions) = columns(&records);
     let claims = if lent.claims { ends } else { Vec::new() };
     number == 0
+        && extensions == tallied(&lent.events, registers)
         && (answer.number, answer.verdict) == (0, verdict)
         && 32 * answer.registers == lent.registers.len()
         && 36 * answer.events == lent.events.len()

@@ -7,7 +7,7 @@ use native.Mathlib.Omega.{arith}
 use native.Mathlib.Decide.{decLt}
 use lib.Dec.{ltb}
 use lib.ListN.{length}
-use borrow.Author.Tests.{eq-eqb, ne-eqb, ltb-true, ltb-false}
+use borrow.Author.Tests.{ltb-false}
 use Rattle.answers.specs.declared.reading.Layout.{Layout}
 use Rattle.answers.specs.declared.reading.Reading.{Reading}
 use Rattle.answers.specs.declared.reading.Reading.the-variants as reading
@@ -15,7 +15,7 @@ use Rattle.answers.specs.Checked.{checkRegisters, checkEvents}
 use Rattle.layout.specs.Layout.{readingOf, eventsOf}
 use Rattle.records.specs.Events.{Event, eventList, digestsFor, extensions}
 use Rattle.records.specs.Records.{extensionsAt}
-use Rattle.records.proofs.Counting.{event-count, extensions-more}
+use Rattle.records.proofs.Counting.{event-count, extensions-own, extensions-other}
 use Rattle.bootlog.specs.Check.{checkedAt, checkOf, checkBuffer}
 use Rattle.bootlog.proofs.Replaying.{below}
 use Rattle.bootlog.proofs.Logs.{events-below}
@@ -36,23 +36,17 @@ total-none (suc n) = omega (arith, total-none n)
 
 -- an event more counts where its register is among the first n
 module _ (e : Event) (es : List Event) where
-  own : (r : ℕ) → e .register ≡ r → extensions r (e ∷ es) ≡ 1 + extensions r es
-  own r q = rw (eq-eqb (e .register) r q) at (extensions-more r e es)
-
-  other : (r : ℕ) → (e .register ≡ r → ⊥) → extensions r (e ∷ es) ≡ 0 + extensions r es
-  other r q = rw (ne-eqb (e .register) r q) at (extensions-more r e es)
-
   total-past : (n : ℕ) → n ≤ e .register → total (λ r. extensions r (e ∷ es)) n ≡ total (λ r. extensions r es) n
   unfolding total
   total-past zero h = refl
-  total-past (suc n) h = omega (arith, total-past n (omega arith), other n (λ q. omega arith))
+  total-past (suc n) h = omega (arith, total-past n (omega arith), extensions-other n e es (λ q. omega arith))
 
   total-more : (n : ℕ) → e .register < n → total (λ r. extensions r (e ∷ es)) n ≡ 1 + total (λ r. extensions r es) n
   unfolding total
   total-more zero h = absurd (omega arith)
   total-more (suc n) h = elim (decLt (e .register) n) [
-    | yes p ↦ omega (arith, total-more n p, other n (λ q. omega arith))
-    | no p ↦ omega (arith, total-past n (omega arith), own n (omega arith))
+    | yes p ↦ omega (arith, total-more n p, extensions-other n e es (λ q. omega arith))
+    | no p ↦ omega (arith, total-past n (omega arith), extensions-own n e es (omega arith))
   ]
 
 -- events whose registers are all among the first n

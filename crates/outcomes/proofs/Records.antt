@@ -7,12 +7,12 @@ use lib.Seq.{sets}
 use Rattle.outcome.specs.Outcome.{OneOutcome}
 use Rattle.outcome.proofs.Outcome.{one}
 use Rattle.records.specs.Events.{eventRun}
-use Rattle.records.specs.Records.{recordsOf, valueAt, extensionsAt, valuesIn}
+use Rattle.records.specs.Records.{putRecords, valueAt, extensionsAt, valuesIn}
 use Rattle.outcomes.proofs.Fields.{put-bytes-one}
 
 -- `put`
-pub put-one : (out values events : List ℕ) → OneOutcome (λ (b : List ℕ). b ≡ sets out 0 (recordsOf values (eventRun events) (length values / 32)))
-put-one out values events = put-bytes-one out 0 (recordsOf values (eventRun events) (length values / 32))
+pub put-one : (out values events : List ℕ) → OneOutcome (λ (b : List ℕ). b ≡ putRecords values (eventRun events) out)
+put-one out values events = one (putRecords values (eventRun events) out)
 
 -- `value_at`
 pub value-at-one : (records : List ℕ) (r : ℕ) → OneOutcome (λ (v : List ℕ). v ≡ valueAt records r)
