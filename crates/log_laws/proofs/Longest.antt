@@ -1,14 +1,18 @@
--- How long an accepted log can be.
-use mathlib.Core.Path.{_≡_}
+-- How long an accepted log can be, and how much room its check needs.
+use mathlib.Core.Path.{_≡_, refl}
 use mathlib.Core.List.{List}
 use mathlib.Core.Logic.{⊎-elim}
-use Prim.Native.Nat.{ℕ, _≤_}
+use Prim.Native.Nat.{ℕ, _*_, _≤_}
 use native.Mathlib.Omega.{arith}
 use lib.ListN.{length}
+use borrow.Author.Tests.{le-ltb}
 use Rattle.answers.specs.declared.reading.Layout.{Layout}
 use Rattle.answers.specs.declared.reading.Reading.the-variants.{Whole}
 use Rattle.layout.specs.Layout.{readingOf}
+use Rattle.answers.specs.Checked.{checkNumber}
+use Rattle.bootlog.specs.Check.{checkedAt, checkOf}
 use Rattle.layout.proofs.Sizes.{counts}
+use Rattle.bootlog.proofs.Verdicts.{check-answer}
 
 -- At most 38,440 bytes; a log of that size is run (samples/longest.log).
 pub accepted-size : (log : List ℕ) (at : Layout) → readingOf log ≡ Whole at → length log ≤ 38440
@@ -17,3 +21,8 @@ accepted-size log at e =
     let k : at .claims ≤ 24 = ⊎-elim (λ z. omega arith) (λ z. omega (arith, c .most)) (c .claims) in
     let s : at .salt ≤ 32 = ⊎-elim (λ z. omega arith) (λ z. omega arith) (c .salt) in
     omega (arith, c .most, c .events, c .whole)
+
+-- A buffer of 816 bytes is never too short for a check: a log that is read whole is accepted.
+pub check-room : (log : List ℕ) (at : Layout) → readingOf log ≡ Whole at → (room : ℕ) → 816 ≤ room → checkNumber (checkOf log room) ≡ 0
+unfolding checkedAt
+check-room log at e room h = rw (← check-answer log at e room refl, le-ltb room (34 * at .registers) (omega (arith, counts log at e .most)))

@@ -73,6 +73,11 @@ pub printout-length : (log : List ℕ) → length (printoutOf log) ≤ 2048
 unfolding printoutOf
 printout-length log = text-length (checkOf log 816) (checkBuffer log (replicate 816 0)) (modest log) (few log)
 
+-- so a buffer of so many is never too short for print
+pub print-fits : (log : List ℕ) (room : ℕ) → 2048 ≤ room → printOf log room ≡ Bytes (length (printoutOf log))
+unfolding printOf
+print-fits log room h = rw (le-ltb room (length (printoutOf log)) (omega (arith, printout-length log)))
+
 -- what a check answered and left in the buffer, and so the room that its text needs
 module _ (log records : List ℕ) {c : Checked} (e : c ≡ checkOf log 816) (b : records ≡ checkBuffer log (replicate 816 0)) where
   pub printed : textOf c records ≡ printoutOf log
