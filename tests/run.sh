@@ -124,6 +124,12 @@ line=$(sed -n 's/^    \(bin\/run chimbersu write .* | bin\/run bootcheck\)$/\1/p
 bash -euo pipefail -c "$line" | cmp - "$made/print"
 one_more
 
+# README's sample output is the front of what is printed.
+sed -nE 's/^    (accepted [0-9]+ .*|[0-9]+ [0-9]+ [0-9a-f]{64})$/\1/p' README.md >"$made/shown"
+[ "$(wc -l <"$made/shown")" = 3 ]
+head -n 3 "$made/print" | cmp - "$made/shown"
+one_more
+
 # The small family's compression stands apart from the large one's words in every program but the one that hashes nothing, and needs little stack.
 rustc -O --edition 2021 tests/stack.rs -o "$made/stack"
 for main in crates/*/src/main.rt; do

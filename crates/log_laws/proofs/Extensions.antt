@@ -1,7 +1,7 @@
 -- The extensions over all registers add up to N (document 02, Four).
-use mathlib.Core.Path.{_≡_, refl, sym, _∙_}
+use mathlib.Core.Path.{_≡_, refl, _∙_}
 use mathlib.Core.Bool.{Bool, true, false}
-use mathlib.Core.List.{List, [], _∷_, List·Memᴰ·head, List·Memᴰ·tail}
+use mathlib.Core.List.{List, [], _∷_, _++_, List·Memᴰ·head, List·Memᴰ·tail}
 use Prim.Native.Nat.{ℕ, zero, suc, _+_, _*_, _≤_, _<_}
 use native.Mathlib.Omega.{arith}
 use native.Mathlib.Decide.{decLt}
@@ -15,7 +15,7 @@ use Rattle.answers.specs.Checked.{checkRegisters, checkEvents}
 use Rattle.layout.specs.Layout.{readingOf, eventsOf}
 use Rattle.records.specs.Events.{Event, eventList, digestsFor, extensions}
 use Rattle.records.specs.Records.{extensionsAt}
-use Rattle.records.proofs.Counting.{event-count, extensions-own, extensions-other}
+use Rattle.records.proofs.Counting.{event-count, extensions-more, extensions-own, extensions-other}
 use Rattle.bootlog.specs.Check.{checkedAt, checkOf, checkBuffer}
 use Rattle.bootlog.proofs.Replaying.{below}
 use Rattle.bootlog.proofs.Logs.{events-below}
@@ -53,6 +53,12 @@ module _ (e : Event) (es : List Event) where
 pub total-events : (n : ℕ) (es : List Event) → below n es → total (λ r. extensions r es) n ≡ length es
 total-events n [] b = total-none n
 total-events n (e ∷ es) b = omega (arith, total-more e es n (b e (List·Memᴰ·head refl)), total-events n es (λ x m. b x (List·Memᴰ·tail m)))
+
+-- A copy of the events that was taken too early is short by what the missing ones extend, register by register.
+pub extensions-join : (r : ℕ) (es missing : List Event) → extensions r (es ++ missing) ≡ extensions r es + extensions r missing
+unfolding extensions digestsFor
+extensions-join r [] missing = omega arith
+extensions-join r (e ∷ es) missing = omega (arith, extensions-more r e es, extensions-more r e (es ++ missing), extensions-join r es missing)
 
 module _ (log : List ℕ) (at : Layout) (e : readingOf log ≡ reading.Whole at) where
   -- The extensions over all registers add up to N.
