@@ -15,7 +15,7 @@ use Rattle.answers.specs.Checked.{checkRegisters, checkEvents}
 use Rattle.layout.specs.Layout.{readingOf, eventsOf}
 use Rattle.records.specs.Events.{Event, eventList, digestsFor, extensions}
 use Rattle.records.specs.Records.{extensionsAt}
-use Rattle.records.proofs.Counting.{event-count, extensions-more, extensions-own, extensions-other}
+use Rattle.records.proofs.Events.{event-count, extensions-more, extensions-own, extensions-other}
 use Rattle.bootlog.specs.Check.{checkedAt, checkOf, checkBuffer}
 use Rattle.bootlog.proofs.Replaying.{below}
 use Rattle.bootlog.proofs.Logs.{events-below}

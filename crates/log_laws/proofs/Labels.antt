@@ -20,7 +20,7 @@ use Rattle.bootlog.specs.Replay.{saltInEffect, replayed, endValues}
 use Rattle.bootlog.specs.Check.{endsOf, logRecords, verdictOf, checkedAt, checkOf, checkBuffer}
 use Rattle.layout.proofs.Sections.{section, event-section}
 use Rattle.layout.proofs.Sizes.{counts}
-use Rattle.records.proofs.Counting.{eventAt, extensions-more}
+use Rattle.records.proofs.Events.{eventAt, extensions-more}
 use Rattle.records.proofs.Banks.{records-equal}
 use Rattle.bootlog.proofs.Logs.{event-cons, log-blocks}
 use Rattle.bootlog.proofs.Verdicts.{check-answer, check-buffer, refused-answer, refused-buffer}
