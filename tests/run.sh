@@ -74,6 +74,13 @@ for size in 0 1 63 64 65 4095 4096 4097; do
     one_more
 done
 
+# A digest of any length is the second program's, whole bytes of it or not, and lengths past either end are refused.
+for m in 0 1 7 8 9 255 256 257 263 264 511 512 513; do
+    "$made/second" sum "$m" <crates/first_stage/stdin >"$made/sum"
+    bin/run shavite3sum "$m" <crates/first_stage/stdin | cmp - "$made/sum"
+    one_more
+done
+
 # A log is written, or refused, as the second program does it.
 mkdir "$made/parts"
 "$made/second" parts "$made/parts"

@@ -1,11 +1,13 @@
 //! The case file: its writer and the order of its parts.
 
-use crate::digest::State;
+use crate::digest::{LastBits, State};
 use crate::hash::Family;
-use crate::lines::{hex, state_text, write_text};
+use crate::lines::{hex, last_text, state_text, write_text};
 use crate::random::Random;
 use crate::write::Lent;
-use crate::{cases_log, cases_message, cases_records, cases_saved, cases_state, cases_write};
+use crate::{
+    cases_bits, cases_log, cases_message, cases_records, cases_saved, cases_state, cases_write,
+};
 
 pub const FAMILIES: [Family; 2] = [Family::Small, Family::Large];
 
@@ -43,16 +45,32 @@ impl Writer {
         self.add(&data);
     }
 
-    /// A finish with a lent buffer of random bytes.
+    /// A finish of whole bytes with a lent buffer of random bytes.
     pub fn finish(&mut self, buffer_size: usize) {
         let buffer = self.random.bytes(buffer_size);
-        self.line(&format!("finish {}", hex(&buffer)));
+        self.finish_bits(LastBits::NONE, &buffer);
     }
 
-    /// A one-shot with a lent buffer of random bytes.
+    pub fn finish_bits(&mut self, last: LastBits, buffer: &[u8]) {
+        self.line(&format!("finish {} {}", last_text(last), hex(buffer)));
+    }
+
+    /// A one-shot of whole bytes with a lent buffer of random bytes.
     pub fn oneshot(&mut self, m: u16, salt: &[u8], data: &[u8], buffer_size: usize) {
         let buffer = self.random.bytes(buffer_size);
-        self.line(&format!("oneshot {m} {} {} {}", hex(salt), hex(data), hex(&buffer)));
+        self.oneshot_bits(m, salt, data, LastBits::NONE, &buffer);
+    }
+
+    pub fn oneshot_bits(
+        &mut self,
+        m: u16,
+        salt: &[u8],
+        data: &[u8],
+        last: LastBits,
+        buffer: &[u8],
+    ) {
+        let words = [hex(salt), hex(data), last_text(last), hex(buffer)].join(" ");
+        self.line(&format!("oneshot {m} {words}"));
     }
 
     /// A check with a lent buffer of random bytes.
@@ -77,7 +95,7 @@ impl Writer {
         self.line(&write_text(lent, &buffer));
     }
 
-    /// An allowed digest length of the family.
+    /// A digest length of the family in whole bytes.
     pub fn m_of(&mut self, family: Family) -> u16 {
         let step = 8 * (1 + self.random.below(32) as u16);
         match family {
@@ -106,6 +124,7 @@ pub fn text() -> String {
     unreadable(&mut w);
     cases_write::write(&mut w);
     cases_records::write(&mut w);
+    cases_bits::write(&mut w);
     w.text
 }
 
@@ -153,12 +172,12 @@ fn unreadable(w: &mut Writer) {
         "add é".to_string(),
         " # add 41".to_string(),
         "finish".to_string(),
-        "finish zz".to_string(),
-        "finish 00 00".to_string(),
-        "oneshot 256 - -".to_string(),
-        "oneshot 256 - - - -".to_string(),
-        "oneshot 70000 - - 00".to_string(),
-        "oneshot 8 - 0 00".to_string(),
+        "finish 00 0 zz".to_string(),
+        "finish 00 0 00 00".to_string(),
+        "oneshot 256 - - 00 0".to_string(),
+        "oneshot 256 - - 00 0 - -".to_string(),
+        "oneshot 70000 - - 00 0 00".to_string(),
+        "oneshot 8 - 0 00 0 00".to_string(),
         "check -".to_string(),
         "check - - -".to_string(),
         "check 0 -".to_string(),

@@ -3,8 +3,9 @@
 use crate::cases::{Writer, FAMILIES};
 use crate::hash::Family;
 
-/// Digest lengths that are refused with 1.
-const BAD_M: [u16; 18] =
+/// Digest lengths that are refused with 1, and among them, for comparison, some that are allowed
+/// but have a broken byte.
+const ODD_M: [u16; 18] =
     [0, 1, 4, 7, 9, 12, 255, 257, 260, 263, 265, 511, 513, 516, 520, 1024, 65_528, 65_535];
 
 pub fn write(w: &mut Writer) {
@@ -23,7 +24,7 @@ fn every_digest_length(w: &mut Writer) {
     w.comment("every digest length");
     for m in (8..=512).step_by(8) {
         let family = Family::of(m);
-        let limit = family.one_block_rest();
+        let limit = family.one_block_bits() / 8;
         let block = family.block_bytes();
         let far = block + 1 + w.random.below(150);
         for (turn, size) in [0, 1, limit, limit + 1, block, far].into_iter().enumerate() {
@@ -89,8 +90,8 @@ fn growing(w: &mut Writer) {
 }
 
 fn refused_starts(w: &mut Writer) {
-    w.comment("digest lengths that are not allowed");
-    for m in BAD_M {
+    w.comment("digest lengths that are not allowed, and allowed ones of a broken byte");
+    for m in ODD_M {
         for salt_size in [0, 32, 64, 31] {
             let salt = w.random.bytes(salt_size);
             w.oneshot(m, &salt, b"abc", 66);
@@ -163,7 +164,7 @@ fn cuts(w: &mut Writer, family: Family) {
                 w.oneshot(m, &salt, &joined, exact);
             }
             4 => {
-                w.oneshot(257, &salt, b"in between", 64);
+                w.oneshot(513, &salt, b"in between", 64);
                 w.line("begin 256");
                 w.check(&[0, 0, 0, 0], 3);
             }

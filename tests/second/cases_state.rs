@@ -50,11 +50,8 @@ pub fn spoils(state: &State) -> Vec<State> {
         assert!(!spoiled.consistent());
         list.push(spoiled);
     };
-    for m in [0, 7, 257, 520, 65_535, state.m + 1, state.m + 4] {
-        push(&|s| s.m = m);
-    }
-    let other = if family == Family::Small { [264, 512] } else { [8, 256] };
-    for m in other {
+    let other = if family == Family::Small { [257, 263, 264, 512] } else { [1, 8, 255, 256] };
+    for m in [0, 513, 520, 1024, 65_535].into_iter().chain(other) {
         push(&|s| s.m = m);
     }
     // Past the limit, all else fitting.

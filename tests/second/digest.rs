@@ -1,9 +1,27 @@
 //! The running digest: begin, add, finish and one-shot, with their refusals.
 
+use crate::bits;
 use crate::hash::{compress, starting_chain, Family};
 
-/// Most bytes that a message may have.
+/// Most whole bytes that a message may have; with 7 last bits behind them it has 2^64 - 1 bits.
 pub const LIMIT: u64 = (1 << 61) - 1;
+
+/// The bits of a message behind its whole bytes: so many, most significant first in one byte.
+/// Nothing is known of the two numbers.
+#[derive(Clone, Copy, PartialEq, Eq, Debug)]
+pub struct LastBits {
+    pub byte: u8,
+    pub count: u8,
+}
+
+impl LastBits {
+    pub const NONE: LastBits = LastBits { byte: 0, count: 0 };
+
+    /// At most 7, the bits of the byte that are not used being zero.
+    pub fn allowed(self) -> bool {
+        self.count <= 7 && self.byte & (0xff >> self.count) == 0
+    }
+}
 
 #[derive(Clone, PartialEq, Eq, Debug)]
 pub struct State {
@@ -16,17 +34,19 @@ pub struct State {
     pub held: [u8; 128],
 }
 
-/// What finish and one-shot report: a refusal number or 0, bytes covered, blocks compressed.
+/// What finish and one-shot report: a refusal number or 0, whole bytes and last bits covered, blocks
+/// compressed.
 #[derive(Clone, Copy, PartialEq, Eq, Debug)]
 pub struct Report {
     pub number: u8,
     pub covered: u64,
+    pub bits: u8,
     pub compressed: u64,
 }
 
 impl Report {
     fn refused(number: u8) -> Report {
-        Report { number, covered: 0, compressed: 0 }
+        Report { number, covered: 0, bits: 0, compressed: 0 }
     }
 }
 
@@ -58,7 +78,23 @@ impl State {
 }
 
 pub fn m_allowed(m: u16) -> bool {
-    m != 0 && m <= 512 && m % 8 == 0
+    (1..=512).contains(&m)
+}
+
+/// Bytes of a digest of m bits.
+pub fn digest_bytes(m: u16) -> usize {
+    m.div_ceil(8) as usize
+}
+
+/// The last refusals of finish and one-shot, in their order.
+fn closing_refusal(m: u16, last: LastBits, room: usize) -> Option<u8> {
+    if !last.allowed() {
+        Some(11)
+    } else if room < digest_bytes(m) {
+        Some(5)
+    } else {
+        None
+    }
 }
 
 /// The refusals that begin and one-shot share, in their order; else the salt filled up to 64 bytes.
@@ -107,64 +143,63 @@ pub fn add(given: &State, data: &[u8]) -> (u8, State) {
     (0, state)
 }
 
-/// The last one or two blocks of a message of `covered` bytes whose unfinished block is `held`.
-pub fn closing_blocks(family: Family, m: u16, covered: u64, held: &[u8]) -> Vec<(u128, Vec<u8>)> {
+/// The last one or two blocks of a message of `covered` bytes, the unfinished block of which is
+/// `held`, and of last bits that are allowed.
+pub fn closing_blocks(
+    family: Family,
+    m: u16,
+    covered: u64,
+    held: &[u8],
+    last: LastBits,
+) -> Vec<(u128, Vec<u8>)> {
     let block = family.block_bytes();
-    let rest = (covered % block as u64) as usize;
-    let bits = 8 * covered as u128;
-    let mut bytes = held[..rest].to_vec();
-    bytes.push(0x80);
-    let wanted = if rest <= family.one_block_rest() { block } else { 2 * block };
+    let whole_bytes = (covered % block as u64) as usize;
+    let rest = 8 * whole_bytes + last.count as usize;
+    let length = 8 * covered as u128 + last.count as u128;
+    let mut bytes = held[..whole_bytes].to_vec();
+    // The 1 bit follows the last bit directly, so it stands in the same byte.
+    bytes.push(last.byte | 0x80 >> last.count);
+    let wanted = if rest <= family.one_block_bits() { block } else { 2 * block };
     bytes.resize(wanted - family.length_bytes() - 2, 0);
-    bytes.extend_from_slice(&bits.to_le_bytes()[..family.length_bytes()]);
+    bytes.extend_from_slice(&length.to_le_bytes()[..family.length_bytes()]);
     bytes.extend_from_slice(&m.to_le_bytes());
     let mut list = Vec::new();
     for (index, piece) in bytes.chunks(block).enumerate() {
-        // Only the first of them can hold message bytes.
-        let counter = if index == 0 && rest > 0 { bits } else { 0 };
+        // Only the first of them can hold bits of the message.
+        let counter = if index == 0 && rest > 0 { length } else { 0 };
         list.push((counter, piece.to_vec()));
     }
     list
 }
 
-/// The whole list of (counter, block) of a message.
-pub fn whole_list(family: Family, m: u16, message: &[u8]) -> Vec<(u128, Vec<u8>)> {
-    let block = family.block_bytes();
-    let whole = message.len() / block;
-    let mut list = Vec::new();
-    for index in 0..whole {
-        let end = (index + 1) * block;
-        list.push((8 * end as u128, message[end - block..end].to_vec()));
-    }
-    list.extend(closing_blocks(family, m, message.len() as u64, &message[whole * block..]));
-    list
-}
-
-/// Writes the first m/8 bytes of the chain.
+/// Writes the first m bits of the chain; in a broken last byte the unused low bits become zero.
 pub fn write_digest(chain: &[u32; 16], m: u16, out: &mut [u8]) {
-    for i in 0..m as usize / 8 {
+    let size = digest_bytes(m);
+    for i in 0..size {
         out[i] = chain[i / 4].to_le_bytes()[i % 4];
     }
+    out[size - 1] &= 0xff << (8 * size - m as usize);
 }
 
-pub fn finish(state: &State, out: &mut [u8]) -> Report {
+pub fn finish(state: &State, last: LastBits, out: &mut [u8]) -> Report {
     if !state.consistent() {
         return Report::refused(4);
     }
-    if out.len() < state.m as usize / 8 {
-        return Report::refused(5);
+    if let Some(number) = closing_refusal(state.m, last, out.len()) {
+        return Report::refused(number);
     }
-    let list = closing_blocks(state.family, state.m, state.covered, &state.held);
+    let list = closing_blocks(state.family, state.m, state.covered, &state.held, last);
     let mut chain = state.chain;
     for (counter, block) in &list {
         chain = compress(state.family, &chain, block, *counter, &state.salt);
     }
     write_digest(&chain, state.m, out);
-    Report { number: 0, covered: state.covered, compressed: state.compressed + list.len() as u64 }
+    let compressed = state.compressed + list.len() as u64;
+    Report { number: 0, covered: state.covered, bits: last.count, compressed }
 }
 
-/// Made from the list of the whole message, not by way of add and finish.
-pub fn one_shot(m: u16, salt: &[u8], data: &[u8], out: &mut [u8]) -> Report {
+/// Made from the whole message as a list of bits, not by way of add and finish.
+pub fn one_shot(m: u16, salt: &[u8], data: &[u8], last: LastBits, out: &mut [u8]) -> Report {
     let salt = match open(m, salt) {
         Err(number) => return Report::refused(number),
         Ok(salt) => salt,
@@ -172,15 +207,17 @@ pub fn one_shot(m: u16, salt: &[u8], data: &[u8], out: &mut [u8]) -> Report {
     if data.len() as u64 > LIMIT {
         return Report::refused(3);
     }
-    if out.len() < m as usize / 8 {
-        return Report::refused(5);
+    if let Some(number) = closing_refusal(m, last, out.len()) {
+        return Report::refused(number);
     }
     let family = Family::of(m);
-    let list = whole_list(family, m, data);
+    let list = bits::whole_list(family, m, &bits::message(data, last));
     let mut chain = starting_chain(family, m, &[0; 64]);
     for (counter, block) in &list {
         chain = compress(family, &chain, block, *counter, &salt);
     }
-    write_digest(&chain, m, out);
-    Report { number: 0, covered: data.len() as u64, compressed: list.len() as u64 }
+    let digest = bits::digest(&chain, m);
+    out[..digest.len()].copy_from_slice(&digest);
+    let (covered, compressed) = (data.len() as u64, list.len() as u64);
+    Report { number: 0, covered, bits: last.count, compressed }
 }

@@ -73,9 +73,9 @@ impl Family {
         self.pick(8, 16)
     }
 
-    /// Largest remainder that is padded in one block.
-    pub fn one_block_rest(self) -> usize {
-        self.pick(53, 109)
+    /// Most bits of a rest that is padded in one block.
+    pub fn one_block_bits(self) -> usize {
+        self.pick(431, 879)
     }
 
     fn rounds(self) -> usize {

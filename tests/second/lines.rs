@@ -1,6 +1,6 @@
 //! The line format of case files: writing states, reading lines, answering them.
 
-use crate::digest::{add, begin, finish, one_shot, State};
+use crate::digest::{add, begin, finish, one_shot, LastBits, Report, State};
 use crate::hash::Family;
 use crate::log::check;
 use crate::saved::{load, save};
@@ -24,6 +24,16 @@ pub fn state_text(s: &State) -> String {
     let chain: String = s.chain.iter().map(|w| format!("{w:08x}")).collect();
     let (salt, held) = (hex(&s.salt), hex(&s.held));
     format!("{family} {} {salt} {chain} {} {} {held}", s.m, s.covered, s.compressed)
+}
+
+/// BYTE BITS
+pub fn last_text(last: LastBits) -> String {
+    format!("{:02x} {}", last.byte, last.count)
+}
+
+/// NUM COVERED BITS COMPRESSED
+fn report_text(r: &Report) -> String {
+    format!("{} {} {} {}", r.number, r.covered, r.bits, r.compressed)
 }
 
 /// The line that has a log written.
@@ -63,57 +73,71 @@ fn answer(line: &[u8], state: &mut State) -> Option<String> {
     let words: Vec<&str> = text.split(' ').collect();
     match words[..] {
         ["begin", m, salt] => {
-            let (number, made) = begin(number16(m)?, &bytes(salt)?);
-            *state = made;
-            Some(format!("begin {number} {}", state_text(state)))
+            let made = begin(number16(m)?, &bytes(salt)?);
+            Some(handed_back("begin", made, state))
         }
         ["state", ref parts @ ..] => {
             *state = state_of(parts)?;
             Some(format!("state {}", state_text(state)))
         }
         ["add", data] => {
-            let (number, made) = add(state, &bytes(data)?);
-            *state = made;
-            Some(format!("add {number} {}", state_text(state)))
+            let made = add(state, &bytes(data)?);
+            Some(handed_back("add", made, state))
         }
-        ["finish", buffer] => {
-            let mut buffer = bytes(buffer)?;
-            let r = finish(state, &mut buffer);
-            let counts = format!("{} {} {}", r.number, r.covered, r.compressed);
-            Some(format!("finish {counts} {} {}", state_text(state), hex(&buffer)))
-        }
-        ["oneshot", m, salt, data, buffer] => {
-            let (m, salt, data) = (number16(m)?, bytes(salt)?, bytes(data)?);
-            let mut buffer = bytes(buffer)?;
-            let r = one_shot(m, &salt, &data, &mut buffer);
-            let counts = format!("{} {} {}", r.number, r.covered, r.compressed);
-            Some(format!("oneshot {counts} {}", hex(&buffer)))
-        }
-        ["check", log, buffer] => {
-            let (log, mut buffer) = (bytes(log)?, bytes(buffer)?);
-            let a = check(&log, &mut buffer);
-            let counts = format!("{} {} {} {}", a.number, a.registers, a.events, a.blocks);
-            Some(format!("check {counts} {} {}", a.verdict, hex(&buffer)))
+        ["load", form] => Some(handed_back("load", load(&bytes(form)?), state)),
+        ["finish", byte, bits, buffer] => {
+            let (last, mut buffer) = (last_bits(byte, bits)?, bytes(buffer)?);
+            let report = report_text(&finish(state, last, &mut buffer));
+            Some(format!("finish {report} {} {}", state_text(state), hex(&buffer)))
         }
         ["save", buffer] => {
             let mut buffer = bytes(buffer)?;
             let (number, size) = save(state, &mut buffer);
             Some(format!("save {number} {size} {}", hex(&buffer)))
         }
-        ["load", form] => {
-            let (number, made) = load(&bytes(form)?);
-            *state = made;
-            Some(format!("load {number} {}", state_text(state)))
-        }
-        ["write", salt, registers, events, claims, buffer] => {
-            let (salt, registers, events) = (bytes(salt)?, bytes(registers)?, bytes(events)?);
-            let (claims, mut buffer) = (wish(claims)?, bytes(buffer)?);
-            let lent = Lent { salt, registers, events, claims };
-            let (number, length) = write_log(&lent, &mut buffer);
-            Some(format!("write {number} {length} {}", hex(&buffer)))
-        }
+        ["oneshot", ref parts @ ..] => answer_one_shot(parts),
+        ["check", log, buffer] => answer_check(&bytes(log)?, bytes(buffer)?),
+        ["write", ref parts @ ..] => answer_write(parts),
         _ => None,
     }
+}
+
+/// The answer of a call whose state becomes the current one.
+fn handed_back(call: &str, (number, made): (u8, State), state: &mut State) -> String {
+    *state = made;
+    format!("{call} {number} {}", state_text(state))
+}
+
+fn answer_one_shot(words: &[&str]) -> Option<String> {
+    let [m, salt, data, byte, bits, buffer] = *words else {
+        return None;
+    };
+    let (m, salt, data) = (number16(m)?, bytes(salt)?, bytes(data)?);
+    let (last, mut buffer) = (last_bits(byte, bits)?, bytes(buffer)?);
+    let report = report_text(&one_shot(m, &salt, &data, last, &mut buffer));
+    Some(format!("oneshot {report} {}", hex(&buffer)))
+}
+
+fn answer_check(log: &[u8], mut buffer: Vec<u8>) -> Option<String> {
+    let a = check(log, &mut buffer);
+    let counts = format!("{} {} {} {}", a.number, a.registers, a.events, a.blocks);
+    Some(format!("check {counts} {} {}", a.verdict, hex(&buffer)))
+}
+
+fn answer_write(words: &[&str]) -> Option<String> {
+    let [salt, registers, events, claims, buffer] = *words else {
+        return None;
+    };
+    let (salt, registers, events) = (bytes(salt)?, bytes(registers)?, bytes(events)?);
+    let (claims, mut buffer) = (wish(claims)?, bytes(buffer)?);
+    let (number, length) = write_log(&Lent { salt, registers, events, claims }, &mut buffer);
+    Some(format!("write {number} {length} {}", hex(&buffer)))
+}
+
+/// The last bits that two words stand for, allowed or not.
+fn last_bits(byte: &str, bits: &str) -> Option<LastBits> {
+    let [byte] = exact(byte)?;
+    Some(LastBits { byte, count: u8::try_from(number64(bits)?).ok()? })
 }
 
 /// Whether claims are asked for: the numbers 0 and 1.

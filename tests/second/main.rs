@@ -1,7 +1,9 @@
 //! A second, independent program for the SHAvite-3 digest, its saved states, the boot log check and
 //! the logger.
 
+mod bits;
 mod cases;
+mod cases_bits;
 mod cases_log;
 mod cases_message;
 mod cases_records;
@@ -19,6 +21,7 @@ mod runs;
 mod samples;
 mod saved;
 mod selftest;
+mod selftest_bits;
 mod selftest_records;
 mod selftest_write;
 mod stage;

@@ -1,7 +1,8 @@
 //! Comparison with every printed value.
 
+use crate::bits::{message, whole_list};
 use crate::digest::{
-    add, begin, closing_blocks, finish, one_shot, whole_list, write_digest, State, LIMIT,
+    add, begin, closing_blocks, finish, one_shot, write_digest, LastBits, State, LIMIT,
 };
 use crate::hash::{compress, field_product, master_value, starting_chain, Family, SBOX};
 use crate::lines::hex;
@@ -9,6 +10,7 @@ use crate::log::printed_check;
 use crate::printed::{salt_byte, Message, What, TABLE};
 use crate::samples::smallest;
 use crate::saved::{load, save};
+use crate::selftest_bits::bit_values;
 use crate::selftest_records::record_values;
 use crate::selftest_write::write_values;
 use crate::stage;
@@ -124,7 +126,7 @@ pub fn run() -> (String, bool) {
     }
     for (family, size, counters) in COUNTERS {
         let m = if family == Family::Small { 256 } else { 512 };
-        let list = whole_list(family, m, &vec![7; size]);
+        let list = whole_list(family, m, &message(&vec![7; size], LastBits::NONE));
         let made: Vec<u128> = list.iter().map(|(counter, _)| *counter).collect();
         tally.value(&format!("counters of {family:?} {size}"), made == counters);
     }
@@ -136,6 +138,7 @@ pub fn run() -> (String, bool) {
     stage_values(&mut tally);
     write_values(&mut tally);
     record_values(&mut tally);
+    bit_values(&mut tally);
     let mut text: String =
         tally.missed.iter().map(|label| format!("selftest: not met: {label}\n")).collect();
     text += &format!("selftest: {} values met\n", tally.met);
@@ -160,12 +163,12 @@ fn appendix_digest(m: u16, salted: bool, message: Message) -> Vec<u32> {
     assert_eq!(number, 0);
     let mut out = vec![0; m as usize / 8];
     if family == Family::Small && message == Message::MillionA {
-        let list = closing_blocks(family, m, state.covered, &state.held);
+        let list = closing_blocks(family, m, state.covered, &state.held, LastBits::NONE);
         assert_eq!((list.len(), list[0].0), (1, 0));
         let last = compress(family, &state.chain, &list[0].1, 8_000_000, &salt);
         write_digest(&last, m, &mut out);
     } else {
-        assert_eq!(finish(&state, &mut out).number, 0);
+        assert_eq!(finish(&state, LastBits::NONE, &mut out).number, 0);
     }
     words_of(&out)
 }
@@ -174,7 +177,8 @@ fn appendix_digest(m: u16, salted: bool, message: Message) -> Vec<u32> {
 /// counter 0 on the padding-only block.
 fn million_a_by_rule(m: u16, salt: &[u8]) -> Vec<u32> {
     let mut out = vec![0; m as usize / 8];
-    assert_eq!(one_shot(m, salt, &Message::MillionA.bytes(), &mut out).number, 0);
+    let report = one_shot(m, salt, &Message::MillionA.bytes(), LastBits::NONE, &mut out);
+    assert_eq!(report.number, 0);
     words_of(&out)
 }
 
@@ -214,14 +218,14 @@ fn cuts_agree() -> bool {
         let salt: Vec<u8> = message[100..100 + salt_size].to_vec();
         (0..=message.len()).all(|size| {
             let mut whole = [0; 64];
-            let whole_report = one_shot(m, &salt, &message[..size], &mut whole);
+            let whole_report = one_shot(m, &salt, &message[..size], LastBits::NONE, &mut whole);
             [1, 17, 64, 100].iter().all(|&cut| {
                 let mut state = begin(m, &salt).1;
                 for piece in message[..size].chunks(cut) {
                     state = add(&state, piece).1;
                 }
                 let mut out = [0; 64];
-                finish(&state, &mut out) == whole_report && out == whole
+                finish(&state, LastBits::NONE, &mut out) == whole_report && out == whole
             })
         })
     })
@@ -237,7 +241,7 @@ fn sum_values(tally: &mut Tally) {
     let empty = sum_line(&[], b"").unwrap_or_default();
     let right = empty.starts_with("4ae7a5f7") && empty.ends_with(" 0 1\n");
     tally.value("sum of the empty input", right);
-    tally.value("sum at 257 bits", sum_line(&["257"], b"A").as_deref() == Some("refused 1\n"));
+    tally.value("sum at 513 bits", sum_line(&["513"], b"A").as_deref() == Some("refused 1\n"));
     let short = sum_line(&["256", &"00".repeat(31)], b"A");
     tally.value("sum with a salt of 31 bytes", short.as_deref() == Some("refused 2\n"));
     tally.value("words of sum", SUM_UNREADABLE.iter().all(|words| sum::asked(words).is_err()));
@@ -253,7 +257,7 @@ fn sum_turns_agree() -> bool {
         let lower: String = salt.iter().map(|b| format!("{b:02x}")).collect();
         [1, 999, 1000, 1001, 2000, 2431, 3000].iter().all(|&size| {
             let mut whole = vec![0; m as usize / 8];
-            let r = one_shot(m, salt, &message[..size], &mut whole);
+            let r = one_shot(m, salt, &message[..size], LastBits::NONE, &mut whole);
             let line = format!("{} {} {}\n", hex(&whole), r.covered, r.compressed);
             [lower.clone(), lower.to_uppercase()].iter().all(|word| {
                 sum_line(&[&m.to_string(), word], &message[..size]).as_ref() == Some(&line)
@@ -319,8 +323,9 @@ fn handed_over_agree(m: u16, salt_size: usize) -> bool {
         let read = load(&buffer[..form_size]).1;
         [0, 1, 60, 130].iter().all(|more| {
             let (mut out, mut whole) = ([0; 64], [0; 64]);
-            let report = finish(&add(&read, &message[size..size + more]).1, &mut out);
-            let whole_report = one_shot(m, salt, &message[..size + more], &mut whole);
+            let last = LastBits::NONE;
+            let report = finish(&add(&read, &message[size..size + more]).1, last, &mut out);
+            let whole_report = one_shot(m, salt, &message[..size + more], last, &mut whole);
             report.number == 0 && report == whole_report && out == whole
         })
     })
@@ -354,8 +359,9 @@ fn saved_values(tally: &mut Tally) {
 fn stage_goes_on(form: &[u8], input: &[u8], more: &[u8]) -> bool {
     let (number, read) = load(form);
     let (mut out, mut whole) = ([0; 32], [0; 32]);
-    let report = finish(&add(&read, more).1, &mut out);
-    let whole_report = one_shot(256, &[], &[input, more].concat(), &mut whole);
+    let last = LastBits::NONE;
+    let report = finish(&add(&read, more).1, last, &mut out);
+    let whole_report = one_shot(256, &[], &[input, more].concat(), last, &mut whole);
     number == 0 && report.number == 0 && report == whole_report && out == whole
 }
 
@@ -381,7 +387,7 @@ fn stage_values(tally: &mut Tally) {
     }
     // By begin, by add, by save.
     let full = State { covered: LIMIT, compressed: LIMIT / 64, ..begin(256, &[]).1 };
-    let right = stage::output_from(begin(257, &[]), b"A") == b"refused 1\n"
+    let right = stage::output_from(begin(513, &[]), b"A") == b"refused 1\n"
         && stage::output_from((0, full), b"A") == b"refused 3\n"
         && stage::output_from((0, State::zero()), &[]) == b"refused 4\n";
     tally.value("refusals of stage", right);

@@ -1,7 +1,7 @@
 //! Comparison of the check's records with values by one-shot and numbers by hand, with printed texts
 //! written out, with the samples and with the logger's claims.
 
-use crate::digest::one_shot;
+use crate::digest::{one_shot, LastBits};
 use crate::lines::{answer_all, hex};
 use crate::log::{check, printed_check, Answer, Verdict};
 use crate::parts::{contents, Event, Parts};
@@ -109,7 +109,8 @@ fn refusal(log: &[u8], room: usize) -> Option<u8> {
 fn value_after(salt: &[u8], start: u8, components: &[u8]) -> Vec<u8> {
     components.iter().fold(vec![start; 32], |old, &component| {
         let mut value = vec![0; 32];
-        one_shot(256, salt, &[old, vec![component; 32]].concat(), &mut value);
+        let message = [old, vec![component; 32]].concat();
+        one_shot(256, salt, &message, LastBits::NONE, &mut value);
         value
     })
 }

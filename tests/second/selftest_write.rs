@@ -1,7 +1,7 @@
 //! Comparison of the logger with logs written out, with the check, with the samples and with the
 //! runs of its mode.
 
-use crate::digest::one_shot;
+use crate::digest::{one_shot, LastBits};
 use crate::lines::{answer_all, hex, write_text};
 use crate::log::{check, Verdict, LONGEST};
 use crate::parts::{contents, Parts};
@@ -162,7 +162,8 @@ fn logs_written_out(tally: &mut Tally) {
     let lent = Lent { salt: salt.to_vec(), registers, events, claims: true };
     let extended = |old: [u8; 32], component: u8| {
         let mut value = [0; 32];
-        one_shot(256, &salt, &[old, [component; 32]].concat(), &mut value);
+        let message = [old, [component; 32]].concat();
+        one_shot(256, &salt, &message, LastBits::NONE, &mut value);
         value
     };
     let ends = [extended(start, 0x55), extended(extended(other, 0x44), 0x44)].concat();

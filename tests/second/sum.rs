@@ -1,6 +1,6 @@
 //! The digest of an input of any size, by begin, add and finish.
 
-use crate::digest::{add, begin, finish};
+use crate::digest::{add, begin, digest_bytes, finish, LastBits};
 use crate::lines::{hex, number16};
 
 /// Bytes of one add. No multiple of a block, so that most turns end inside one.
@@ -48,8 +48,8 @@ fn digested(m: u16, salt: &[u8], input: &[u8]) -> Result<String, u8> {
         accepted(number)?;
         state = made;
     }
-    let mut digest = vec![0; m as usize / 8];
-    let report = finish(&state, &mut digest);
+    let mut digest = vec![0; digest_bytes(m)];
+    let report = finish(&state, LastBits::NONE, &mut digest);
     accepted(report.number)?;
     // The counts are those of finish, not of the input, so that a turn left out shows in the line.
     Ok(format!("{} {} {}", hex(&digest), report.covered, report.compressed))

@@ -2,7 +2,7 @@
 use Prim.Native.Nat.{_<_}
 use native.Mathlib.Omega.{arith}
 use Rattle.answers.specs.declared.refusal.Refusal.{Refusal}
-use Rattle.answers.specs.declared.refusal.Refusal.the-variants.{DigestLength, SaltSize, MessageLimit, StateInconsistent, BufferShort, LogExtent, SectionCount, EventRegister, FormExtent, FormCount}
+use Rattle.answers.specs.declared.refusal.Refusal.the-variants.{DigestLength, SaltSize, MessageLimit, StateInconsistent, BufferShort, LogExtent, SectionCount, EventRegister, FormExtent, FormCount, BitsUnfit}
 use Rattle.answers.specs.Refusal.{refusalNumber}
 
 -- it is printed in two digits at most
@@ -17,3 +17,4 @@ refusal-small SectionCount = omega arith
 refusal-small EventRegister = omega arith
 refusal-small FormExtent = omega arith
 refusal-small FormCount = omega arith
+refusal-small BitsUnfit = omega arith

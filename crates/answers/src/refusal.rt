@@ -13,6 +13,7 @@ pub enum Refusal {
     EventRegister,
     FormExtent,
     FormCount,
+    BitsUnfit,
 }
 
 pub enum Answer {
@@ -21,7 +22,7 @@ pub enum Answer {
 }
 
 impl Refusal {
-    // The number in document 01's table; 9 and 10 are document 02's.
+    // The number in document 01's table; 9 and on are document 02's.
     pub fn number(self) -> u8
         ensures { λ r. ⌜ r ≡ refusalNumber self ⌝ }
     {
@@ -36,6 +37,7 @@ impl Refusal {
             Refusal::EventRegister => 8,
             Refusal::FormExtent => 9,
             Refusal::FormCount => 10,
+            Refusal::BitsUnfit => 11,
         }
     }
 }

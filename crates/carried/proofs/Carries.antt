@@ -11,6 +11,8 @@ use Rattle.counter.specs.Counter.{counterOf}
 use Rattle.answers.specs.declared.refusal.Answer.{Answer}
 use Rattle.answers.specs.declared.refusal.Answer.the-variants.{Accepted, Refused}
 use Rattle.answers.specs.Refusal.{ifAccepted}
+use Rattle.bits.specs.declared.LastBits.{LastBits}
+use Rattle.bits.specs.Message.{messageOf}
 use Rattle.startup.specs.Startup.{startOf}
 use Rattle.state.specs.declared.State.{State}
 use Rattle.state.specs.Bytes.{fill}
@@ -96,7 +98,8 @@ module _ (m : ℕ) (salt : List ℕ) (h : beginAnswer m salt ≡ Accepted) (move
   pub moves-length : length (joinedBy (beginOf m salt .state) moves) ≤ limit
   moves-length = rw (by-calls .1) (joined-length m salt (calls moves) h)
 
-  -- Finishing it reports and writes what one-shot does for those bytes.
-  pub moves-finish : (out : List ℕ) → (finishOf (afterMoves (beginOf m salt .state) moves) out .report ≡ oneShotOf m salt (joinedBy (beginOf m salt .state) moves) out)
-      × (finishBuffer (afterMoves (beginOf m salt .state) moves) out ≡ oneShotBuffer m salt (joinedBy (beginOf m salt .state) moves) out)
-  moves-finish out = rw (by-calls .0, by-calls .1) (calls-finish m salt (calls moves) h out)
+  -- Finishing it with any last bits reports and writes what one-shot does for those bytes and bits.
+  pub moves-finish : (last : LastBits) (out : List ℕ)
+      → (finishOf (afterMoves (beginOf m salt .state) moves) last out .report ≡ oneShotOf m salt (messageOf (joinedBy (beginOf m salt .state) moves) last) out)
+      × (finishBuffer (afterMoves (beginOf m salt .state) moves) last out ≡ oneShotBuffer m salt (messageOf (joinedBy (beginOf m salt .state) moves) last) out)
+  moves-finish last out = rw (by-calls .0, by-calls .1) (calls-finish m salt (calls moves) h last out)

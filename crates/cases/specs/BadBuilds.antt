@@ -15,6 +15,8 @@ use Rattle.compress.specs.Compression.{smallOutput, compressOf}
 use Rattle.startup.specs.Startup.{masterOf, startOf}
 use Rattle.answers.specs.declared.refusal.Answer.the-variants.{Accepted}
 use Rattle.family.specs.Family.{familyOf}
+use Rattle.bits.specs.Bits.{highBits, noBits, lastFits, marked, kept, firstBits}
+use Rattle.bits.specs.Message.{Message, whole}
 use Rattle.state.specs.declared.State.{State}
 use Rattle.fields.specs.Fields.{le, bytesOf}
 use Rattle.state.specs.Bytes.{fill, allZero}
@@ -32,13 +34,13 @@ begins = refl
 
 -- One with a constant digest: the digests of no byte and of "A", as source appendix A.2 prints them, begin with different bytes.
 abbrev firstByte : List ℕ → ℕ
-firstByte xs = getD (oneShotBuffer 256 [] xs (replicate 32 0)) 0 0
+firstByte xs = getD (oneShotBuffer 256 [] (whole xs) (replicate 32 0)) 0 0
 
 abbrev firstBytes : ℕ × ℕ
 firstBytes = (firstByte [], firstByte (65 ∷ []))
 
 pub digests : firstBytes ≡ (0x4A, 0x17)
-unfolding oneShotBuffer oneShotAnswer allowed saltFits familyOf digestOf chainOver blocksOf wholeBlocks lastBlocks lastBlock fill le bytesOf startOf masterOf compressOf smallOutput smallCipher halvesRound innerOf expandOf runOf nonlinearRun linearRun groupOf linearOf tapsOf lastOf countsOf enters places back times fourAt xor4 roundOf columnOf fromColumn fromBytes wordsOf wordAt aesRound subBytes shiftRows mixColumns addRoundKey sboxOf sboxTable counterOf
+unfolding oneShotBuffer oneShotAnswer allowed saltFits familyOf lastFits noBits marked highBits kept firstBits digestOf chainOver blocksOf wholeBlocks lastBlocks lastBlock fill le bytesOf startOf masterOf compressOf smallOutput smallCipher halvesRound innerOf expandOf runOf nonlinearRun linearRun groupOf linearOf tapsOf lastOf countsOf enters places back times fourAt xor4 roundOf columnOf fromColumn fromBytes wordsOf wordAt aesRound subBytes shiftRows mixColumns addRoundKey sboxOf sboxTable counterOf
 digests = refl
 
 -- One whose add returns its input state: an accepted add of at least a byte gives another state.
@@ -57,13 +59,14 @@ unfolding after afterCall beginOf beginAnswer addOf addAnswer absorbed heldOf st
 both-held = refl
 
 -- One that invents its block count: the count of an accepted one-shot is the length of the definition's list: 1 for no byte, 2 for 54.
-pub count-is : (m : ℕ) (salt xs out : List ℕ) → oneShotAnswer m salt xs out ≡ Accepted → reportBlocks (oneShotOf m salt xs out) ≡ length (blocksOf (familyOf m) m xs)
+pub count-is : (m : ℕ) (salt : List ℕ) (x : Message) (out : List ℕ) → oneShotAnswer m salt x out ≡ Accepted
+    → reportBlocks (oneShotOf m salt x out) ≡ length (blocksOf (familyOf m) m x)
 unfolding oneShotOf
-count-is m salt xs out a = rw a
+count-is m salt x out a = rw a
 
 abbrev blockCounts : ℕ × ℕ
-blockCounts = (length (blocksOf Small 256 []), length (blocksOf Small 256 (replicate 54 0)))
+blockCounts = (length (blocksOf Small 256 (whole [])), length (blocksOf Small 256 (whole (replicate 54 0))))
 
 pub counts : blockCounts ≡ (1, 2)
-unfolding blocksOf wholeBlocks lastBlocks
+unfolding blocksOf wholeBlocks lastBlocks noBits
 counts = refl

@@ -7,11 +7,13 @@ use Rattle.aes.specs.Field.{mul}
 use Rattle.sbox.specs.Sbox.{sboxOf, sboxTable}
 use Rattle.family.specs.declared.Family.{Family}
 use Rattle.family.specs.declared.Family.the-variants.{Small, Large}
+use Rattle.bits.specs.Bits.{noBits}
+use Rattle.bits.specs.Message.{whole}
 use Rattle.digest.specs.Blocks.{wholeBlocks, lastBlocks, blocksOf}
 
--- the counters of a message of b bytes, all 0, and a digest of m bits
+-- the counters of a message of b bytes, all 0, with no last bits, and a digest of m bits
 abbrev countersOf : Family → ℕ → ℕ → List ℕ
-countersOf f m b = map (λ x. x .0) (blocksOf f m (replicate b 0))
+countersOf f m b = map (λ x. x .0) (blocksOf f m (whole (replicate b 0)))
 
 -- a row: what the definitions give, and what document 01 says
 abbrev Row : Type 0
@@ -42,5 +44,5 @@ rows =
 
 -- What the definitions give is what document 01 says, in every row.
 pub marked : map (λ row. row .0) rows ≡ map (λ row. row .1) rows
-unfolding blocksOf wholeBlocks lastBlocks sboxOf sboxTable
+unfolding blocksOf wholeBlocks lastBlocks noBits sboxOf sboxTable
 marked = refl

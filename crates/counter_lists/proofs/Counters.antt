@@ -12,8 +12,9 @@ use Rattle.family.specs.declared.Family.{Family}
 use Rattle.family.specs.Family.{blockBytes}
 use Rattle.family.proofs.Sizes.{block-pos}
 use Rattle.counter.specs.Counter.{counterOf}
+use Rattle.bits.specs.Message.{Message, messageOf, bitLength}
 use Rattle.digest.specs.Blocks.{wholeBlocks, lastBlocks, blocksOf}
-use Rattle.state.specs.State.{limit}
+use Rattle.state.specs.State.{bitLimit}
 use Rattle.digest.proofs.Blocking.{rest-split}
 use Rattle.digest.proofs.Endings.{last-cases}
 use Rattle.counter_lists.specs.Lists.{wordsRead, handed, absent, distinct}
@@ -48,24 +49,27 @@ whole-rising top (suc n) b d xs l p h r =
     let e : d + suc n * b ≡ d + b + n * b = omega arith in
     inl (omega arith, omega arith, whole-rising top n b (d + b) (drop b xs) l p (rw e at h) (rw e at r))
 
-first-rising : (r d : ℕ) → rising (8 * (d + r)) (8 * d) ((cond (eqb r 0) 0 (8 * (d + r)), []) ∷ [])
+-- k bits of rest, d bits before
+first-rising : (k d : ℕ) → rising (d + k) d ((cond (eqb k 0) 0 (d + k), []) ∷ [])
 unfolding rising
 first-rising zero d = inr (refl, refl)
-first-rising (suc r) d = rw (ne-eqb (suc r) 0 (λ e. omega arith)) (inl (omega arith, omega arith, tt))
+first-rising (suc k) d = rw (ne-eqb (suc k) 0 (λ e. omega arith)) (inl (omega arith, omega arith, tt))
 
-last-rising : (f : Family) (m d : ℕ) (rest : List ℕ) → rising (8 * (d + length rest)) (8 * d) (lastBlocks f m (d + length rest) rest)
+last-rising : (f : Family) (m d : ℕ) (rest : Message) → rising (d + bitLength rest) d (lastBlocks f m (d + bitLength rest) rest)
 unfolding rising
-last-rising f m d rest = last-cases (rising (8 * (d + length rest)) (8 * d)) f m (d + length rest) rest
-    (λ h. first-rising (length rest) d)
+last-rising f m d rest = last-cases (rising (d + bitLength rest) d) f m (d + bitLength rest) rest
+    (λ h. first-rising (bitLength rest) d)
     (λ h. inl (omega arith, omega arith, inr (refl, refl)))
 
-message-rising : (f : Family) (m : ℕ) (xs : List ℕ) → rising (8 * length xs) 0 (blocksOf f m xs)
+message-rising : (f : Family) (m : ℕ) (x : Message) → rising (bitLength x) 0 (blocksOf f m x)
 unfolding blocksOf
-message-rising f m xs =
+message-rising f m x =
     let b = blockBytes f in
+    let xs = x .bytes in
     let n = length xs / b in
-    let e : 0 + n * b + length (drop (n * b) xs) ≡ length xs = omega (arith, rest-split b xs) in
-    whole-rising (8 * length xs) n b 0 xs _ (block-pos f) (omega arith) (rw e at (last-rising f m (0 + n * b) (drop (n * b) xs)))
+    let rest = messageOf (drop (n * b) xs) (x .last) in
+    let e : 8 * (0 + n * b) + bitLength rest ≡ bitLength x = omega (arith, rest-split b xs) in
+    whole-rising (bitLength x) n b 0 xs _ (block-pos f) (omega arith) (rw e at (last-rising f m (8 * (0 + n * b)) rest))
 
 -- what compression is handed, with the counter's number in place of its words
 abbrev pub numbered : List (List ℕ × List ℕ) → List (ℕ × List ℕ)
@@ -78,9 +82,9 @@ rising-numbered f top c (x ∷ l) h (inl r) = rw (words-tell f (x .0) (omega (ar
 rising-numbered f top c (x ∷ l) h (inr r) = rw (r .1, words-tell f (x .0) (omega (arith, r .0)))
 
 -- Up to the limit the words tell the numbers.
-pub handed-numbered : (f : Family) (m : ℕ) (xs : List ℕ) → length xs ≤ limit → numbered (handed f m xs) ≡ blocksOf f m xs
+pub handed-numbered : (f : Family) (m : ℕ) (x : Message) → bitLength x ≤ bitLimit → numbered (handed f m x) ≡ blocksOf f m x
 unfolding handed
-handed-numbered f m xs h = rising-numbered f (8 * length xs) 0 (blocksOf f m xs) (omega arith) (message-rising f m xs)
+handed-numbered f m x h = rising-numbered f (bitLength x) 0 (blocksOf f m x) (omega arith) (message-rising f m x)
 
 -- What has distinct images is distinct.
 module _ {A B : Type 0} (g : A → B) where
@@ -95,7 +99,7 @@ module _ {A B : Type 0} (g : A → B) where
   distinct-of (x ∷ l) h = (absent-of x l (h .0), distinct-of l (h .1))
 
 -- Within one digest no two compressions use the same counter.
-pub counters-distinct : (f : Family) (m : ℕ) (xs : List ℕ) → length xs ≤ limit → distinct (map (λ x. x .0) (handed f m xs))
-counters-distinct f m xs h =
-    let e = simp map-map at (ap countersOf (handed-numbered f m xs h)) in
-    distinct-of numberRead _ (rw (map-map, e) (rising-distinct (8 * length xs) 0 (blocksOf f m xs) (message-rising f m xs)))
+pub counters-distinct : (f : Family) (m : ℕ) (x : Message) → bitLength x ≤ bitLimit → distinct (map (λ b. b .0) (handed f m x))
+counters-distinct f m x h =
+    let e = simp map-map at (ap countersOf (handed-numbered f m x h)) in
+    distinct-of numberRead _ (rw (map-map, e) (rising-distinct (bitLength x) 0 (blocksOf f m x) (message-rising f m x)))

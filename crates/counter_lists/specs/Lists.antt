@@ -6,6 +6,7 @@ use Rattle.family.specs.declared.Family.{Family}
 use Rattle.family.specs.declared.Family.the-variants.{Small, Large}
 use Rattle.counter.specs.declared.Counter.{Counter}
 use Rattle.counter.specs.Counter.{counterOf}
+use Rattle.bits.specs.Message.{Message}
 use Rattle.digest.specs.Blocks.{blocksOf}
 
 -- "counter": the words of it that a family's compression reads, the low one first: two in the small family, four in the large
@@ -14,8 +15,8 @@ wordsRead Small c = c .0 ∷ c .1 ∷ []
 wordsRead Large c = c .0 ∷ c .1 ∷ c .2 ∷ c .3 ∷ []
 
 -- "lists of (counter, block)": what the compressions of a message's digest are handed, in their order: the counter's words and the block
-unfoldable pub handed : Family → ℕ → List ℕ → List (List ℕ × List ℕ)
-handed f m xs = map (λ x. (wordsRead f (counterOf (x .0)), x .1)) (blocksOf f m xs)
+unfoldable pub handed : Family → ℕ → Message → List (List ℕ × List ℕ)
+handed f m x = map (λ b. (wordsRead f (counterOf (b .0)), b .1)) (blocksOf f m x)
 
 -- "no two of those compressions use the same counter": no two of a list are equal
 unfoldable pub absent : {A : Type 0} → A → List A → Type 0

@@ -14,6 +14,8 @@ use Rattle.family.specs.declared.Family.the-variants.{Small, Large}
 use Rattle.family.specs.Family.{digestBits, familyOf, blockBytes, chainWords, saltBytes}
 use Rattle.startup.specs.Startup.{startOf}
 use Rattle.startup.proofs.Started.{start-zero}
+use Rattle.bits.specs.declared.LastBits.{LastBits}
+use Rattle.bits.specs.Message.{messageOf}
 use Rattle.state.specs.declared.State.{State}
 use Rattle.state.specs.Bytes.{fill, allZero}
 use Rattle.digest.specs.Blocks.{wholeBlocks, blocksOf, chainOver, digestOf}
@@ -160,13 +162,14 @@ module _ (m : ℕ) (salt xs : List ℕ) where
   pub state-consistent : allowed m ≡ true → saltFits f salt ≡ true → length xs ≤ limit → consistentOf (stateOf m salt xs) ≡ true
   state-consistent ok fits room = consistent-of (stateOf m salt xs) (state-sound ok fits room)
 
-  pub state-digest : stateDigest (stateOf m salt xs) ≡ digestOf f m (fill 64 salt) xs
+  -- finished with whatever last bits: the digest and the list of the message that they end
+  pub state-digest : (last : LastBits) → stateDigest (stateOf m salt xs) last ≡ digestOf f m (fill 64 salt) (messageOf xs last)
   unfolding stateDigest closing digestOf blocksOf stateOf
-  state-digest = rw (state-held, chainOver-append)
+  state-digest last = rw (state-held, chainOver-append)
 
-  pub state-count : stateOf m salt xs .compressed + length (closing (stateOf m salt xs)) ≡ length (blocksOf f m xs)
+  pub state-count : (last : LastBits) → stateOf m salt xs .compressed + length (closing (stateOf m salt xs) last) ≡ length (blocksOf f m (messageOf xs last))
   unfolding closing blocksOf stateOf
-  state-count = rw (state-held, length-append, wholeBlocks-length)
+  state-count last = rw (state-held, length-append, wholeBlocks-length)
 
   -- the state of xs is the first state with xs taken in
   state-from : stateOf m salt xs ≡ absorbed (stateOf m salt []) xs

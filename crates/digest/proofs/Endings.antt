@@ -10,28 +10,32 @@ use lib.ListN.{length, length-append}
 use borrow.Author.Tests.{le-leb, lt-leb}
 use Rattle.family.specs.declared.Family.{Family}
 use Rattle.family.specs.Family.{blockBytes, padLimit}
+use Rattle.bits.specs.Bits.{marked}
+use Rattle.bits.specs.Message.{Message, bitLength}
 use Rattle.state.specs.Bytes.{fill}
 use Rattle.digest.specs.Blocks.{lastBlock, lastBlocks, blocksOf}
 use Rattle.digest.proofs.Blocking.{wholeBlocks-length, rest-length}
 
 -- The end of a message is one block or two.
-pub last-cases : (P : List (ℕ × List ℕ) → Type 0) (f : Family) (m n : ℕ) (rest : List ℕ)
-    → (length rest ≤ padLimit f → P ((cond (eqb (length rest) 0) 0 (8 * n), lastBlock f m n (rest ++ (0x80 ∷ []))) ∷ []))
-    → (padLimit f < length rest → P ((8 * n, fill (blockBytes f) (rest ++ (0x80 ∷ []))) ∷ (0, lastBlock f m n []) ∷ []))
-    → P (lastBlocks f m n rest)
+pub last-cases : (P : List (ℕ × List ℕ) → Type 0) (f : Family) (m bits : ℕ) (rest : Message)
+    → (bitLength rest ≤ padLimit f → P ((cond (eqb (bitLength rest) 0) 0 bits, lastBlock f m bits (rest .bytes ++ (marked (rest .last) ∷ []))) ∷ []))
+    → (padLimit f < bitLength rest → P ((bits, fill (blockBytes f) (rest .bytes ++ (marked (rest .last) ∷ []))) ∷ (0, lastBlock f m bits []) ∷ []))
+    → P (lastBlocks f m bits rest)
 unfolding lastBlocks
-last-cases P f m n rest one two = elim (decLt (padLimit f) (length rest)) [
-  | yes h ↦ rw (lt-leb (length rest) (padLimit f) h) (two h)
+last-cases P f m bits rest one two = elim (decLt (padLimit f) (bitLength rest)) [
+  | yes h ↦ rw (lt-leb (bitLength rest) (padLimit f) h) (two h)
   | no h ↦
-      let g : length rest ≤ padLimit f = omega arith in
-      rw (le-leb (length rest) (padLimit f) g) (one g)
+      let g : bitLength rest ≤ padLimit f = omega arith in
+      rw (le-leb (bitLength rest) (padLimit f) g) (one g)
 ]
 
--- document 01's formula: floor(b/B) + 1 where the rest is at most the limit, else floor(b/B) + 2
-pub count-formula : (f : Family) (m : ℕ) (xs : List ℕ) → length (blocksOf f m xs) ≡ length xs / blockBytes f + cond (leb (length xs % blockBytes f) (padLimit f)) 1 2
+-- document 01's formula by the bit rule: floor(b/B) + 1 where the bits of the rest are at most the limit, else floor(b/B) + 2
+pub count-formula : (f : Family) (m : ℕ) (x : Message)
+    → length (blocksOf f m x) ≡ length (x .bytes) / blockBytes f + cond (leb (8 * (length (x .bytes) % blockBytes f) + x .last .count) (padLimit f)) 1 2
 unfolding blocksOf lastBlocks
-count-formula f m xs = rw (length-append, wholeBlocks-length, rest-length) (by (leb (length xs % blockBytes f) (padLimit f)) _ _ _)
+count-formula f m x =
+    rw (length-append, wholeBlocks-length, rest-length) (by (leb (8 * (length (x .bytes) % blockBytes f) + x .last .count) (padLimit f)) _ _ _)
   where
-    by : (t : Bool) (x y z : ℕ × List ℕ) → length xs / blockBytes f + length (cond t (x ∷ []) (y ∷ z ∷ [])) ≡ length xs / blockBytes f + cond t 1 2
-    by true x y z = refl
-    by false x y z = refl
+    by : (t : Bool) (u v w : ℕ × List ℕ) → length (x .bytes) / blockBytes f + length (cond t (u ∷ []) (v ∷ w ∷ [])) ≡ length (x .bytes) / blockBytes f + cond t 1 2
+    by true u v w = refl
+    by false u v w = refl

@@ -11,6 +11,8 @@ use Rattle.answers.specs.declared.refusal.Refusal.the-variants.{DigestLength, S
 use Rattle.answers.specs.declared.refusal.Answer.the-variants.{Accepted}
 use Rattle.answers.specs.Refusal.{judged}
 use Rattle.answers.proofs.Judged.{test-passed}
+use Rattle.bits.specs.declared.LastBits.{LastBits}
+use Rattle.bits.specs.Message.{messageOf}
 use Rattle.state.specs.State.{limit, allowed, consistentOf}
 use Rattle.digest.specs.Running.{stateOf}
 use Rattle.digest.specs.Calls.{saltFits, beginAnswer, beginOf, finishAnswer, finishOf, finishBuffer, oneShotAnswer, oneShotOf, oneShotBuffer}
@@ -37,11 +39,13 @@ module _ (m : ℕ) (salt : List ℕ) (h : beginAnswer m salt ≡ Accepted) where
     pub consistent : consistentOf (stateOf m salt xs) ≡ true
     consistent = state-consistent m salt xs (begin-accepted .0) (begin-accepted .1) room
 
-    same-answer : (out : List ℕ) → finishAnswer (stateOf m salt xs) out ≡ oneShotAnswer m salt xs out
-    unfolding finishAnswer oneShotAnswer stateOf
-    same-answer out = rw (consistent, begin-accepted .0, begin-accepted .1, le-ltb limit (length xs) room)
+    module _ (last : LastBits) (out : List ℕ) where
+      same-answer : finishAnswer (stateOf m salt xs) last out ≡ oneShotAnswer m salt (messageOf xs last) out
+      unfolding finishAnswer oneShotAnswer stateOf
+      same-answer = rw (consistent, begin-accepted .0, begin-accepted .1, le-ltb limit (length xs) room)
 
-    -- Finishing the state of xs reports and writes what one-shot does for xs.
-    pub finish-one-shot : (out : List ℕ) → (finishOf (stateOf m salt xs) out .report ≡ oneShotOf m salt xs out) × (finishBuffer (stateOf m salt xs) out ≡ oneShotBuffer m salt xs out)
-    unfolding finishOf oneShotOf finishBuffer oneShotBuffer stateOf
-    finish-one-shot out = (rw (same-answer out, state-count m salt xs), rw (same-answer out, state-digest m salt xs))
+      -- Finishing the state of xs with last bits reports and writes what one-shot does for xs and those bits.
+      pub finish-one-shot : (finishOf (stateOf m salt xs) last out .report ≡ oneShotOf m salt (messageOf xs last) out)
+          × (finishBuffer (stateOf m salt xs) last out ≡ oneShotBuffer m salt (messageOf xs last) out)
+      unfolding finishOf oneShotOf finishBuffer oneShotBuffer stateOf
+      finish-one-shot = (rw (same-answer, state-count m salt xs last), rw (same-answer, state-digest m salt xs last))

@@ -1,13 +1,16 @@
 -- The four calls, as total functions of their inputs: each with its tests in document 01's order, its result, and what its lent buffer holds afterwards.
 use mathlib.Core.Bool.{Bool, not, _||_}
 use mathlib.Core.List.{List, [], _∷_}
-use Prim.Native.Nat.{ℕ, _+_, _/_}
+use Prim.Native.Nat.{ℕ, _+_, _*_}
 use lib.Dec.{eqb, ltb}
-use lib.ListN.{length, take}
+use lib.ListN.{length}
 use Rattle.family.specs.declared.Family.{Family}
 use Rattle.family.specs.Family.{familyOf, saltBytes}
-use Rattle.answers.specs.declared.refusal.Refusal.the-variants.{DigestLength, SaltSize, MessageLimit, StateInconsistent, BufferShort}
+use Rattle.answers.specs.declared.refusal.Refusal.the-variants.{DigestLength, SaltSize, MessageLimit, StateInconsistent, BufferShort, BitsUnfit}
 use Rattle.answers.specs.declared.refusal.Answer.{Answer}
+use Rattle.bits.specs.declared.LastBits.{LastBits}
+use Rattle.bits.specs.Bits.{lastFits, digestBytes, firstBits}
+use Rattle.bits.specs.Message.{Message, messageOf}
 use Rattle.state.specs.declared.State.{State}
 use Rattle.digest.specs.declared.calls.Step.{Step}
 use Rattle.answers.specs.declared.report.Report.{Report}
@@ -39,33 +42,39 @@ addAnswer s xs = judged ((not (consistentOf s), StateInconsistent) ∷ (ltb limi
 unfoldable pub addOf : State → List ℕ → Step
 addOf s xs = record { answer = addAnswer s xs; state = ifAccepted (addAnswer s xs) (absorbed s xs) s }
 
--- what finishing a state compresses, and its digest
-unfoldable pub closing : State → List (ℕ × List ℕ)
-closing s = lastBlocks (s .family) (s .m) (s .covered .0) (heldOf s)
+-- what finishing a state with last bits compresses, and its digest
+unfoldable pub closing : State → LastBits → List (ℕ × List ℕ)
+closing s last = lastBlocks (s .family) (s .m) (8 * s .covered .0 + last .count) (messageOf (heldOf s) last)
 
-unfoldable pub stateDigest : State → List ℕ
-stateDigest s = take (s .m / 8) (bytesOf (chainOver (s .family) (s .salt) (closing s) (s .chain)))
+unfoldable pub stateDigest : State → LastBits → List ℕ
+stateDigest s last = firstBits (s .m) (bytesOf (chainOver (s .family) (s .salt) (closing s last) (s .chain)))
 
--- finish: 4, 5. It hands back the state that it was given.
-unfoldable pub finishAnswer : State → List ℕ → Answer
-finishAnswer s out = judged ((not (consistentOf s), StateInconsistent) ∷ (ltb (length out) (s .m / 8), BufferShort) ∷ [])
-
-unfoldable pub finishOf : State → List ℕ → Finished
-finishOf s out = record { report = reported (finishAnswer s out) (s .covered .0) (s .compressed + length (closing s)); state = s }
-
-unfoldable pub finishBuffer : State → List ℕ → List ℕ
-finishBuffer s out = written (finishAnswer s out) (stateDigest s) out
-
--- one-shot: 1, 2, 3, 5
-unfoldable pub oneShotAnswer : ℕ → List ℕ → List ℕ → List ℕ → Answer
-oneShotAnswer m salt xs out =
+-- finish: 4, 11, 5. It hands back the state that it was given.
+unfoldable pub finishAnswer : State → LastBits → List ℕ → Answer
+finishAnswer s last out =
     judged (
-    (not (allowed m), DigestLength) ∷ (not (saltFits (familyOf m) salt), SaltSize) ∷ (ltb limit (length xs), MessageLimit)
-    ∷ (ltb (length out) (m / 8), BufferShort) ∷ []
+    (not (consistentOf s), StateInconsistent) ∷ (not (lastFits last), BitsUnfit) ∷ (ltb (length out) (digestBytes (s .m)), BufferShort) ∷ []
     )
 
-unfoldable pub oneShotOf : ℕ → List ℕ → List ℕ → List ℕ → Report
-oneShotOf m salt xs out = reported (oneShotAnswer m salt xs out) (length xs) (length (blocksOf (familyOf m) m xs))
+unfoldable pub finishOf : State → LastBits → List ℕ → Finished
+finishOf s last out = record {
+  report = reported (finishAnswer s last out) (s .covered .0) (last .count) (s .compressed + length (closing s last));
+  state = s;
+}
 
-unfoldable pub oneShotBuffer : ℕ → List ℕ → List ℕ → List ℕ → List ℕ
-oneShotBuffer m salt xs out = written (oneShotAnswer m salt xs out) (digestOf (familyOf m) m (fill 64 salt) xs) out
+unfoldable pub finishBuffer : State → LastBits → List ℕ → List ℕ
+finishBuffer s last out = written (finishAnswer s last out) (stateDigest s last) out
+
+-- one-shot: 1, 2, 3, 11, 5
+unfoldable pub oneShotAnswer : ℕ → List ℕ → Message → List ℕ → Answer
+oneShotAnswer m salt x out =
+    judged (
+    (not (allowed m), DigestLength) ∷ (not (saltFits (familyOf m) salt), SaltSize) ∷ (ltb limit (length (x .bytes)), MessageLimit)
+    ∷ (not (lastFits (x .last)), BitsUnfit) ∷ (ltb (length out) (digestBytes m), BufferShort) ∷ []
+    )
+
+unfoldable pub oneShotOf : ℕ → List ℕ → Message → List ℕ → Report
+oneShotOf m salt x out = reported (oneShotAnswer m salt x out) (length (x .bytes)) (x .last .count) (length (blocksOf (familyOf m) m x))
+
+unfoldable pub oneShotBuffer : ℕ → List ℕ → Message → List ℕ → List ℕ
+oneShotBuffer m salt x out = written (oneShotAnswer m salt x out) (digestOf (familyOf m) m (fill 64 salt) x) out

@@ -1,12 +1,14 @@
-// Begin, add, finish and one-shot. Each tests in document 01's order, and a refusal changes nothing.
+// Begin, add, finish and one-shot. Each tests in the documents' order, and a refusal changes nothing.
 ghost use mathlib.Core.Path.{_≡_};
 ghost use mathlib.Core.Bool.{true, cond};
 ghost use mathlib.Core.List.{[], _++_};
-ghost use Prim.Native.Nat.{_+_, _*_, _≤_, min};
+ghost use Prim.Native.Nat.{_+_, _*_, _≤_, _<_, min};
 ghost use lib.Dec.{eqb, leb};
-ghost use lib.ListN.{length};
+ghost use lib.ListN.{length, set};
 ghost use lib.Seq.{sets};
-ghost use Rattle.family.specs.Family.{padLimit, lengthBytes};
+ghost use Rattle.family.specs.Family.{padLimit, lengthPlace, lengthBytes};
+ghost use Rattle.bits.specs.Bits.{lastFits, marked};
+ghost use Rattle.bits.specs.Message.{messageOf};
 ghost use Rattle.fields.specs.Fields.{le};
 ghost use Rattle.digest.specs.Blocks.{chainOver};
 ghost use Rattle.state.specs.State.{limit, consistentOf};
@@ -17,6 +19,7 @@ use answers::Answer;
 use answers::Length;
 use answers::Refusal;
 use answers::Report;
+use bits::LastBits;
 use counter::Counter;
 use family::Family;
 use state::State;
@@ -169,67 +172,92 @@ struct Closed {
     count: u64,
 }
 
-// The counter of the only last block: 0 where it holds padding only.
-fn last_counter(rest: usize, bits: u64) -> u64
+// The bits of whole bytes and of the last bits behind them.
+fn bits_of(covered: Length, last: LastBits) -> u64
+    requires { ⌜ (covered .0 ≤ limit) × (last .count ≤ 7) ⌝ }
+    ensures { λ r. ⌜ r ≡ 8 * covered .0 + last .count ⌝ }
+{
+    8 * covered.0 + last.count as u64
+}
+
+// The counter of the only last block, which has so many bits of rest: 0 where it holds padding only.
+fn last_counter(rest: u64, bits: u64) -> u64
     ensures { λ r. ⌜ r ≡ cond (eqb rest 0) 0 bits ⌝ }
 {
     if rest == 0 { 0 } else { bits }
 }
 
 // Puts the message length in bits and m at a block's end.
-fn with_length(block: [u8; 128], family: Family, covered: Length, m: u16) -> [u8; 128]
-    requires { ⌜ covered .0 ≤ limit ⌝ }
-    ensures { λ r. ⌜ r ≡ sets block (padLimit family + 1) (le (lengthBytes family) (8 * covered .0) ++ le 2 m) ⌝ }
+fn with_length(
+    block: [u8; 128],
+    family: Family,
+    covered: Length,
+    last: LastBits,
+    m: u16,
+) -> [u8; 128]
+    requires { ⌜ (covered .0 ≤ limit) × (last .count ≤ 7) ⌝ }
+    ensures { λ r. ⌜ r ≡ sets block (lengthPlace family) (le (lengthBytes family) (8 * covered .0 + last .count) ++ le 2 m) ⌝ }
 {
-    let at = family.pad_limit() + 1;
+    let at = family.length_place();
     let field = family.length_bytes();
-    let first = bytes::put_le(block, at, 8 * covered.0, field);
+    let first = bytes::put_le(block, at, bits_of(covered, last), field);
     bytes::put_le(first, at + field, m as u64, 2)
 }
 
-// Whether the length and m fit into the block behind the rest and the mark.
-fn ends_in_one(family: Family, rest: usize) -> bool
+// Whether the length and m fit into the block behind so many bits of rest and the 1 bit.
+fn ends_in_one(family: Family, rest: u64) -> bool
     ensures { λ r. ⌜ r ≡ leb rest (padLimit family) ⌝ }
 {
-    rest <= family.pad_limit()
+    rest <= family.pad_limit() as u64
+}
+
+// The held block with the last bits and the 1 bit behind its bytes.
+fn ended(held: [u8; 128], rest: usize, last: LastBits) -> [u8; 128]
+    requires { ⌜ (rest < 128) × (lastFits last ≡ true) ⌝ }
+    ensures { λ r. ⌜ r ≡ set held rest (marked last) ⌝ }
+{
+    let mut block = held;
+    block[rest] = last.mark() as u8;
+    block
 }
 
 // Pads a copy of the held block and compresses it.
-fn close(state: State) -> Closed
-    requires { ⌜ consistentOf state ≡ true ⌝ }
-    ensures { λ r. ⌜ (r .chain ≡ chainOver (state .family) (state .salt) (closing state) (state .chain)) × (r .count ≡ length (closing state)) ⌝ }
+fn close(state: State, last: LastBits) -> Closed
+    requires { ⌜ (consistentOf state ≡ true) × (lastFits last ≡ true) ⌝ }
+    ensures { λ r. ⌜ (r .chain ≡ chainOver (state .family) (state .salt) (closing state last) (state .chain)) × (r .count ≡ length (closing state last)) ⌝ }
 {
     let family = state.family;
     let m = state.m;
     let salt = state.salt;
     let chain = state.chain;
     let covered = state.covered;
-    let bits = 8 * covered.0;
-    let rest = (covered.0 % (family.block_bytes() as u64)) as usize;
-    let mut block = state.held;
-    block[rest] = 0x80;
-    if ends_in_one(family, rest) {
-        let last = with_length(block, family, covered, m);
-        let counter = Counter::of(last_counter(rest, bits));
-        let done = compress::compress(family, chain, last, counter, salt);
+    let bits = bits_of(covered, last);
+    let rest = covered.0 % (family.block_bytes() as u64);
+    let rest_bits = bits_of(Length(rest), last);
+    let held = state.held;
+    let block = ended(held, rest as usize, last);
+    if ends_in_one(family, rest_bits) {
+        let padded = with_length(block, family, covered, last, m);
+        let counter = Counter::of(last_counter(rest_bits, bits));
+        let done = compress::compress(family, chain, padded, counter, salt);
         return Closed {
             chain: done,
             count: 1,
         };
     }
     let next = compress::compress(family, chain, block, Counter::of(bits), salt);
-    let last = with_length([0u8; 128], family, covered, m);
-    let done = compress::compress(family, next, last, Counter::of(0), salt);
+    let padded = with_length([0u8; 128], family, covered, last, m);
+    let done = compress::compress(family, next, padded, Counter::of(0), salt);
     Closed {
         chain: done,
         count: 2,
     }
 }
 
-// Writes the digest of what a state covers to the first m/8 bytes of the buffer. The state goes on unchanged.
-pub fn finish(state: State, out: &mut [u8]) -> Finished
-    ensures result { λ r. ⌜ r ≡ finishOf state (now (out .entry)) ⌝ }
-    ensures buffer { λ r. ⌜ now (out .exit) ≡ finishBuffer state (now (out .entry)) ⌝ }
+// Writes the digest of what a state covers and of last bits behind it to the front of the buffer, m/8 bytes rounded up. The state goes on unchanged.
+pub fn finish(state: State, last: LastBits, out: &mut [u8]) -> Finished
+    ensures result { λ r. ⌜ r ≡ finishOf state last (now (out .entry)) ⌝ }
+    ensures buffer { λ r. ⌜ now (out .exit) ≡ finishBuffer state last (now (out .entry)) ⌝ }
 {
     if !state::consistent(state) {
         return Finished {
@@ -237,29 +265,35 @@ pub fn finish(state: State, out: &mut [u8]) -> Finished
             state: state,
         };
     }
+    if !last.fits() {
+        return Finished {
+            report: Report::Refused(Refusal::BitsUnfit),
+            state: state,
+        };
+    }
     let m = state.m;
-    let count = (m / 8) as usize;
-    if out.len() < count {
+    let size = bits::digest_bytes(m);
+    if out.len() < size {
         return Finished {
             report: Report::Refused(Refusal::BufferShort),
             state: state,
         };
     }
-    let closed = close(state);
+    let closed = close(state, last);
     let chain = closed.chain;
-    bytes::copy_out(bytes::spell(chain), count, out);
+    bytes::copy_out(bits::keep(bytes::spell(chain), m), size, out);
     let covered = state.covered;
     let compressed = state.compressed + closed.count;
     Finished {
-        report: Report::Covers(covered, compressed),
+        report: Report::Covers(covered, last.count, compressed),
         state: state,
     }
 }
 
-// The digest of one message.
-pub fn one_shot(m: u16, salt: &[u8], bytes: &[u8], out: &mut [u8]) -> Report
-    ensures result { λ r. ⌜ r ≡ oneShotOf m (now (salt .entry)) (now (bytes .entry)) (now (out .entry)) ⌝ }
-    ensures buffer { λ r. ⌜ now (out .exit) ≡ oneShotBuffer m (now (salt .entry)) (now (bytes .entry)) (now (out .entry)) ⌝ }
+// The digest of one message: whole bytes, and last bits behind them.
+pub fn one_shot(m: u16, salt: &[u8], bytes: &[u8], last: LastBits, out: &mut [u8]) -> Report
+    ensures result { λ r. ⌜ r ≡ oneShotOf m (now (salt .entry)) (messageOf (now (bytes .entry)) last) (now (out .entry)) ⌝ }
+    ensures buffer { λ r. ⌜ now (out .exit) ≡ oneShotBuffer m (now (salt .entry)) (messageOf (now (bytes .entry)) last) (now (out .entry)) ⌝ }
 {
     if !state::is_allowed(m) {
         return Report::Refused(Refusal::DigestLength);
@@ -270,11 +304,14 @@ pub fn one_shot(m: u16, salt: &[u8], bytes: &[u8], out: &mut [u8]) -> Report
     if bytes.len() as u64 > state::LIMIT {
         return Report::Refused(Refusal::MessageLimit);
     }
-    if out.len() < (m / 8) as usize {
+    if !last.fits() {
+        return Report::Refused(Refusal::BitsUnfit);
+    }
+    if out.len() < bits::digest_bytes(m) {
         return Report::Refused(Refusal::BufferShort);
     }
     let start = started(m, salt);
     let whole = absorb(start, bytes);
-    let finished = finish(whole, out);
+    let finished = finish(whole, last, out);
     finished.report
 }

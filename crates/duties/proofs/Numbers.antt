@@ -63,9 +63,9 @@ pub written-number : (a : Answer) (n : ℕ) → writtenNumber (writtenIf a n) �
 written-number answer.Accepted n = refl
 written-number (answer.Refused r) n = refl
 
-pub reported-number : (a : Answer) (n k : ℕ) → reportNumber (reported a n k) ≡ answerNumber a
-reported-number answer.Accepted n k = refl
-reported-number (answer.Refused r) n k = refl
+pub reported-number : (a : Answer) (n c k : ℕ) → reportNumber (reported a n c k) ≡ answerNumber a
+reported-number answer.Accepted n c k = refl
+reported-number (answer.Refused r) n c k = refl
 
 -- ---- a log's writing
 pub write-listed : (salt starts events : List ℕ) (wish : Bool) (room : ℕ) → List·Memᴰ (answerNumber (writeAnswer salt starts events wish room)) (0 ∷ 2 ∷ 7 ∷ 8 ∷ 5 ∷ [])

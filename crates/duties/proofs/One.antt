@@ -2,13 +2,13 @@
 use mathlib.Core.Path.{_≡_, refl, _∙_}
 use mathlib.Core.Bool.{Bool, true, false, not, cond}
 use mathlib.Core.List.{List, [], _∷_, List·Memᴰ, List·Memᴰ·head, List·Memᴰ·tail, Memᴰ·append-left}
-use Prim.Native.Nat.{ℕ, _+_, _*_, _/_}
+use Prim.Native.Nat.{ℕ, _+_, _*_}
 use lib.Dec.{ltb}
 use lib.ListN.{length}
 use native.Mathlib.Omega.{arith}
 use borrow.Author.Tests.{lt-leb, ltb-true}
 use Rattle.answers.specs.declared.refusal.Refusal.{Refusal}
-use Rattle.answers.specs.declared.refusal.Refusal.the-variants.{DigestLength, SaltSize, MessageLimit, StateInconsistent, BufferShort}
+use Rattle.answers.specs.declared.refusal.Refusal.the-variants.{DigestLength, SaltSize, MessageLimit, StateInconsistent, BufferShort, BitsUnfit}
 use Rattle.answers.specs.declared.refusal.Answer.{Answer}
 use Rattle.answers.specs.declared.refusal.Answer.the-variants as answer
 use Rattle.answers.specs.declared.reading.Reading.{Reading}
@@ -19,11 +19,12 @@ use Rattle.answers.specs.declared.checked.Checked.{Checked}
 use Rattle.answers.specs.declared.checked.Checked.the-variants as checked
 use Rattle.answers.specs.declared.written.Written.the-variants as written
 use Rattle.answers.specs.Refusal.{refusalNumber, answerNumber, ifAccepted}
-use Rattle.answers.specs.Report.{reportNumber, reportCovered, reportBlocks, reported}
+use Rattle.answers.specs.Report.{reportNumber, reported}
 use Rattle.answers.specs.Reading.{readingNumber, readingRegisters, readingEvents}
 use Rattle.answers.specs.Checked.{checkNumber, checkRegisters, checkEvents, checkBlocks, checkVerdict}
 use Rattle.answers.specs.Written.{writtenNumber, writtenLength, writtenIf}
 use Rattle.family.specs.Family.{familyOf}
+use Rattle.bits.specs.Bits.{lastFits, digestBytes}
 use Rattle.state.specs.State.{limit, allowed, consistentOf}
 use Rattle.digest.specs.Calls.{saltFits, beginAnswer, beginOf, addAnswer, addOf, finishAnswer, finishOf, finishBuffer, oneShotAnswer, oneShotOf, oneShotBuffer}
 use Rattle.saved_form.specs.Form.{formOf}
@@ -36,7 +37,7 @@ use Rattle.bootlog.proofs.Verdicts.{check-answer, check-buffer, refused-answer,
 use Rattle.logger.specs.Write.{writeAnswer, writeOf, writeBuffer}
 use Rattle.text.specs.Place.{placed}
 use Rattle.printout.specs.Printout.{printoutOf, printOf}
-use Rattle.duties.specs.Asked.{Asked, begin, add, finish, oneShot, save, load, read, check, print, write, answered, listed, StateBack, BufferKept, ValuesZero}
+use Rattle.duties.specs.Asked.{Asked, begin, add, finish, oneShot, save, load, read, check, print, write, answered, listed, StateBack, BufferKept, NothingReported, ValuesZero}
 use Rattle.duties.proofs.Numbers.{logNumbers, Read, whole, refused, judged-listed, judged-among, form-among, write-listed, written-number, reported-number, reading-read, reading-listed}
 
 -- A check is refused by the log's reading, or for its buffer, or accepted.
@@ -61,9 +62,9 @@ not-accepted : {A : Type 0} (a : Answer) (x y : A) → (answerNumber a ≡ 0 →
 not-accepted answer.Accepted x y h = absurd (h refl)
 not-accepted (answer.Refused r) x y h = refl
 
-not-reported : (a : Answer) (n k : ℕ) → (reportNumber (reported a n k) ≡ 0 → ⊥) → (reportCovered (reported a n k) ≡ 0) × (reportBlocks (reported a n k) ≡ 0)
-not-reported answer.Accepted n k h = absurd (h refl)
-not-reported (answer.Refused r) n k h = (refl, refl)
+not-reported : (a : Answer) (n c k : ℕ) → (reportNumber (reported a n c k) ≡ 0 → ⊥) → NothingReported (reported a n c k)
+not-reported answer.Accepted n c k h = absurd (h refl)
+not-reported (answer.Refused r) n c k h = (refl, refl, refl)
 
 not-written : (a : Answer) (n : ℕ) → (writtenNumber (writtenIf a n) ≡ 0 → ⊥) → writtenLength (writtenIf a n) ≡ 0
 not-written answer.Accepted n h = absurd (h refl)
@@ -78,13 +79,14 @@ pub every-call-listed : (c : Asked) → List·Memᴰ (answered c) (listed c)
 unfolding answered listed beginOf beginAnswer addOf addAnswer finishOf finishAnswer oneShotOf oneShotAnswer saveOf saveAnswer loadOf loadAnswer printOf writeOf
 every-call-listed (begin m salt) = judged-listed ((not (allowed m), DigestLength) ∷ (not (saltFits (familyOf m) salt), SaltSize) ∷ [])
 every-call-listed (add s xs) = judged-listed ((not (consistentOf s), StateInconsistent) ∷ (ltb limit (s .covered .0 + length xs), MessageLimit) ∷ [])
-every-call-listed (finish s out) =
-    rw (reported-number (finishAnswer s out) (s .covered .0) _) (judged-listed ((not (consistentOf s), StateInconsistent) ∷ (ltb (length out) (s .m / 8), BufferShort) ∷ []))
-every-call-listed (oneShot m salt xs out) =
-    rw (reported-number (oneShotAnswer m salt xs out) (length xs) _)
+every-call-listed (finish s last out) =
+    rw (reported-number (finishAnswer s last out) (s .covered .0) (last .count) _)
+    (judged-listed ((not (consistentOf s), StateInconsistent) ∷ (not (lastFits last), BitsUnfit) ∷ (ltb (length out) (digestBytes (s .m)), BufferShort) ∷ []))
+every-call-listed (oneShot m salt x out) =
+    rw (reported-number (oneShotAnswer m salt x out) (length (x .bytes)) (x .last .count) _)
     (judged-listed (
-    (not (allowed m), DigestLength) ∷ (not (saltFits (familyOf m) salt), SaltSize) ∷ (ltb limit (length xs), MessageLimit)
-    ∷ (ltb (length out) (m / 8), BufferShort) ∷ []
+    (not (allowed m), DigestLength) ∷ (not (saltFits (familyOf m) salt), SaltSize) ∷ (ltb limit (length (x .bytes)), MessageLimit)
+    ∷ (not (lastFits (x .last)), BitsUnfit) ∷ (ltb (length out) (digestBytes m), BufferShort) ∷ []
     ))
 every-call-listed (save s out) =
     rw (written-number (saveAnswer s out) (length (formOf s)))
@@ -108,10 +110,12 @@ pub refusal-leaves : (c : Asked) → (answered c ≡ 0 → ⊥) → StateBack c 
 unfolding answered StateBack BufferKept ValuesZero beginOf addOf finishOf finishBuffer oneShotOf oneShotBuffer saveOf saveBuffer loadOf printOf placed writeOf writeBuffer
 refusal-leaves (begin m salt) h = (not-accepted (beginAnswer m salt) _ _ h, tt, tt)
 refusal-leaves (add s xs) h = (not-accepted (addAnswer s xs) _ _ h, tt, tt)
-refusal-leaves (finish s out) h =
-    (refl, not-accepted (finishAnswer s out) _ _ (λ e. h (reported-number (finishAnswer s out) _ _ ∙ e)), not-reported (finishAnswer s out) _ _ h)
-refusal-leaves (oneShot m salt xs out) h =
-    (tt, not-accepted (oneShotAnswer m salt xs out) _ _ (λ e. h (reported-number (oneShotAnswer m salt xs out) _ _ ∙ e)), not-reported (oneShotAnswer m salt xs out) _ _ h)
+refusal-leaves (finish s last out) h =
+    let a = finishAnswer s last out in
+    (refl, not-accepted a _ _ (λ e. h (reported-number a _ _ _ ∙ e)), not-reported a _ _ _ h)
+refusal-leaves (oneShot m salt x out) h =
+    let a = oneShotAnswer m salt x out in
+    (tt, not-accepted a _ _ (λ e. h (reported-number a _ _ _ ∙ e)), not-reported a _ _ _ h)
 refusal-leaves (save s out) h =
     (refl, not-accepted (saveAnswer s out) _ _ (λ e. h (written-number (saveAnswer s out) _ ∙ e)), not-written (saveAnswer s out) _ h)
 refusal-leaves (load form) h = (not-accepted (loadAnswer form) _ _ h, tt, tt)

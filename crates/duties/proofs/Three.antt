@@ -2,15 +2,20 @@
 use mathlib.Core.Path.{_≡_, _∙_}
 use mathlib.Core.Bool.{true}
 use mathlib.Core.List.{List, map, _++_}
-use Prim.Native.Nat.{ℕ, _/_, _≤_}
+use Prim.Native.Nat.{ℕ, _≤_}
 use lib.ListN.{length, drop, length-map}
 use Rattle.family.specs.Family.{familyOf}
 use Rattle.answers.specs.declared.refusal.Answer.the-variants.{Accepted}
-use Rattle.answers.specs.Report.{reportNumber, reportCovered, reportBlocks}
+use Rattle.answers.specs.Report.{reportNumber, reportCovered, reportBits, reportBlocks}
+use Rattle.bits.specs.declared.LastBits.{LastBits}
+use Rattle.bits.specs.Bits.{lastFits, digestBytes}
+use Rattle.bits.specs.Message.{Message, messageOf, bitLength}
+use Rattle.bits.proofs.Fitting.{at-most-7}
 use Rattle.state.specs.declared.State.{State}
 use Rattle.state.specs.Bytes.{fill}
 use Rattle.digest.specs.Blocks.{digestOf}
-use Rattle.state.specs.State.{limit, allowed}
+use Rattle.state.specs.State.{bitLimit, allowed}
+use Rattle.state.proofs.Limits.{bits-within}
 use Rattle.digest.specs.Running.{stateOf}
 use Rattle.digest.specs.Calls.{beginAnswer, beginOf, finishOf, finishBuffer, oneShotOf, oneShotBuffer}
 use Rattle.digest.proofs.Shot.{begin-accepted}
@@ -21,8 +26,8 @@ use Rattle.counter_lists.proofs.Counters.{counters-distinct}
 use Rattle.counter_lists.proofs.Openings.{lists-apart}
 use Rattle.duties.proofs.Two.{digest-right, counts-right}
 
--- From an accepted start, after any moves: adds in any cuts, empty and refused ones too, finishes, saves, and carries (a form saved, and what is read
--- back gone on with).
+-- From an accepted start, after any moves: adds in any cuts, empty and refused ones too, finishes with any last bits, saves, and carries (a form saved, and
+-- what is read back gone on with).
 module _ (m : ℕ) (salt : List ℕ) (start : beginAnswer m salt ≡ Accepted) (moves : List Move) where
   abbrev s : State
   s = afterMoves (beginOf m salt .state) moves
@@ -35,33 +40,43 @@ module _ (m : ℕ) (salt : List ℕ) (start : beginAnswer m salt ≡ Accepted) (
   pub state-depends : s ≡ stateOf m salt xs
   state-depends = moves-joined m salt start moves
 
-  module _ (out : List ℕ) (room : m / 8 ≤ length out) where
-    one-shot : (finishOf s out .report ≡ oneShotOf m salt xs out) × (finishBuffer s out ≡ oneShotBuffer m salt xs out)
-    one-shot = moves-finish m salt start moves out
+  -- last bits that fit, and the message that they end
+  module _ (last : LastBits) (fits : lastFits last ≡ true) where
+    abbrev x : Message
+    x = messageOf xs last
 
-    right : (reportNumber (oneShotOf m salt xs out) ≡ 0) × (oneShotBuffer m salt xs out ≡ digestOf (familyOf m) m (fill 64 salt) xs ++ drop (m / 8) out)
-    right = digest-right m salt xs out (begin-accepted m salt start .0) (begin-accepted m salt start .1) (moves-length m salt start moves) room
+    within : bitLength x ≤ bitLimit
+    within = bits-within (length xs) (last .count) (moves-length m salt start moves) (at-most-7 last fits)
 
-    -- Its digest is demand 2's for them.
-    pub digest-joined : (reportNumber (finishOf s out .report) ≡ 0) × (finishBuffer s out ≡ digestOf (familyOf m) m (fill 64 salt) xs ++ drop (m / 8) out)
-    digest-joined = (rw (one-shot .0) (right .0), one-shot .1 ∙ right .1)
+    module _ (out : List ℕ) (room : digestBytes m ≤ length out) where
+      one-shot : (finishOf s last out .report ≡ oneShotOf m salt x out) × (finishBuffer s last out ≡ oneShotBuffer m salt x out)
+      one-shot = moves-finish m salt start moves last out
 
-    -- The digest reports how many bytes it covers and how many blocks it compressed, start-up calls not counted.
-    pub coverage-reported : (reportCovered (finishOf s out .report) ≡ length xs) × (reportBlocks (finishOf s out .report) ≡ length (handed (familyOf m) m xs))
-    unfolding handed
-    coverage-reported =
-        let ok = begin-accepted m salt start in
-        let c = counts-right m salt xs out (ok .0) (ok .1) (moves-length m salt start moves) room in
-        (rw (one-shot .0) (c .0), rw (one-shot .0, length-map) (c .1))
+      right : (reportNumber (oneShotOf m salt x out) ≡ 0) × (oneShotBuffer m salt x out ≡ digestOf (familyOf m) m (fill 64 salt) x ++ drop (digestBytes m) out)
+      right = digest-right m salt x out (begin-accepted m salt start .0) (begin-accepted m salt start .1) within fits room
 
-  -- Within one digest no two of those compressions use the same counter: the words that each is handed differ.
-  pub counters-never-repeat : distinct (map (λ x. x .0) (handed (familyOf m) m xs))
-  counters-never-repeat = counters-distinct (familyOf m) m xs (moves-length m salt start moves)
+      -- Its digest is demand 2's for them.
+      pub digest-joined : (reportNumber (finishOf s last out .report) ≡ 0)
+          × (finishBuffer s last out ≡ digestOf (familyOf m) m (fill 64 salt) x ++ drop (digestBytes m) out)
+      digest-joined = (rw (one-shot .0) (right .0), one-shot .1 ∙ right .1)
 
--- Two digests of the same compression function that differ in message or digest length have different lists of (counter, block), and neither list is the
--- opening of the other. The salt is in no list.
-pub no-list-opens : (m m′ : ℕ) (xs ys : List ℕ) → allowed m ≡ true → allowed m′ ≡ true → familyOf m ≡ familyOf m′ → length xs ≤ limit → length ys ≤ limit
-    → ((m ≡ m′) × (xs ≡ ys) → ⊥)
-    → (handed (familyOf m) m xs ≡ handed (familyOf m′) m′ ys → ⊥) × (Opens (handed (familyOf m) m xs) (handed (familyOf m′) m′ ys) → ⊥)
-    × (Opens (handed (familyOf m′) m′ ys) (handed (familyOf m) m xs) → ⊥)
-no-list-opens m m′ xs ys h h′ e = rw (← e) (lists-apart (familyOf m) m m′ xs ys h h′)
+      -- The digest reports how many bytes and bits it covers and how many blocks it compressed, start-up calls not counted.
+      pub coverage-reported : (reportCovered (finishOf s last out .report) ≡ length xs) × (reportBits (finishOf s last out .report) ≡ last .count)
+          × (reportBlocks (finishOf s last out .report) ≡ length (handed (familyOf m) m x))
+      unfolding handed
+      coverage-reported =
+          let ok = begin-accepted m salt start in
+          let c = counts-right m salt x out (ok .0) (ok .1) within fits room in
+          (rw (one-shot .0) (c .0), rw (one-shot .0) (c .1), rw (one-shot .0, length-map) (c .2))
+
+    -- Within one digest no two of those compressions use the same counter: the words that each is handed differ.
+    pub counters-never-repeat : distinct (map (λ b. b .0) (handed (familyOf m) m x))
+    counters-never-repeat = counters-distinct (familyOf m) m x within
+
+-- Two digests of the same compression function that differ in message (a byte, a bit or its length) or digest length have different lists of (counter, block),
+-- and neither list is the opening of the other. The salt is in no list.
+pub no-list-opens : (m m′ : ℕ) (x y : Message) → allowed m ≡ true → allowed m′ ≡ true → familyOf m ≡ familyOf m′ → lastFits (x .last) ≡ true → lastFits (y .last) ≡ true
+    → bitLength x ≤ bitLimit → bitLength y ≤ bitLimit → ((m ≡ m′) × (x ≡ y) → ⊥)
+    → (handed (familyOf m) m x ≡ handed (familyOf m′) m′ y → ⊥) × (Opens (handed (familyOf m) m x) (handed (familyOf m′) m′ y) → ⊥)
+    × (Opens (handed (familyOf m′) m′ y) (handed (familyOf m) m x) → ⊥)
+no-list-opens m m′ x y h h′ e = rw (← e) (lists-apart (familyOf m) m m′ x y h h′)

@@ -2,17 +2,21 @@
 use mathlib.Core.Path.{_≡_, refl}
 use mathlib.Core.Bool.{true}
 use mathlib.Core.List.{List, _++_}
-use Prim.Native.Nat.{ℕ, _*_, _/_, _≤_}
+use Prim.Native.Nat.{ℕ, _*_, _≤_}
 use lib.ListN.{length, drop}
 use borrow.Author.Tests.{le-ltb}
 use Rattle.family.specs.Family.{familyOf}
+use Rattle.answers.specs.declared.refusal.Answer.the-variants.{Accepted}
 use Rattle.answers.specs.declared.reading.Layout.{Layout}
 use Rattle.answers.specs.declared.reading.Reading.the-variants.{Whole}
-use Rattle.answers.specs.Report.{reportNumber, reportCovered, reportBlocks}
+use Rattle.answers.specs.Report.{reportNumber, reportCovered, reportBits, reportBlocks}
 use Rattle.answers.specs.Checked.{checkNumber}
+use Rattle.bits.specs.Bits.{lastFits, digestBytes}
+use Rattle.bits.specs.Message.{Message, bitLength}
 use Rattle.state.specs.Bytes.{fill}
 use Rattle.digest.specs.Blocks.{blocksOf, digestOf}
-use Rattle.state.specs.State.{limit, allowed}
+use Rattle.state.specs.State.{bitLimit, limit, allowed}
+use Rattle.state.proofs.Limits.{within-bits}
 use Rattle.digest.specs.Calls.{saltFits, oneShotAnswer, oneShotOf, oneShotBuffer}
 use Rattle.digest.proofs.Answers.{m-max, digest-length}
 use Rattle.layout.specs.Layout.{readingOf, saltOf, startsOf, eventsOf}
@@ -23,21 +27,22 @@ use Rattle.bootlog.specs.Check.{endsOf, logRecords, checkedAt, checkOf, checkBu
 use Rattle.bootlog.proofs.Verdicts.{check-answer}
 use Rattle.bootlog.proofs.Recorded.{recorded}
 
--- For each salt, each digest length and each message up to the limit, one-shot is accepted and the buffer's first m/8 bytes become the digest.
-module _ (m : ℕ) (salt xs out : List ℕ) (ok : allowed m ≡ true) (fits : saltFits (familyOf m) salt ≡ true) (within : length xs ≤ limit) (room : m / 8 ≤ length out) where
-  pub digest-right : (reportNumber (oneShotOf m salt xs out) ≡ 0) × (oneShotBuffer m salt xs out ≡ digestOf (familyOf m) m (fill 64 salt) xs ++ drop (m / 8) out)
-  unfolding oneShotOf oneShotBuffer oneShotAnswer
-  digest-right =
-      let l = le-ltb limit (length xs) within in
-      let r = le-ltb (length out) (m / 8) room in
-      (rw (ok, fits, l, r), rw (ok, fits, l, r, digest-length (familyOf m) m (fill 64 salt) xs (m-max m ok)))
+-- For each salt, each digest length from 1 to 512 bits and each message up to 2^64 - 1 bits, whose last bits fit, one-shot is accepted and the buffer's first
+-- bytes, m/8 rounded up, become the digest.
+module _ (m : ℕ) (salt : List ℕ) (x : Message) (out : List ℕ) (ok : allowed m ≡ true) (fits : saltFits (familyOf m) salt ≡ true)
+    (within : bitLength x ≤ bitLimit) (last-fits : lastFits (x .last) ≡ true) (room : digestBytes m ≤ length out) where
+  accepted : oneShotAnswer m salt x out ≡ Accepted
+  unfolding oneShotAnswer
+  accepted = rw (ok, fits, le-ltb limit (length (x .bytes)) (within-bits (length (x .bytes)) (x .last .count) within), last-fits, le-ltb (length out) (digestBytes m) room)
 
-  pub counts-right : (reportCovered (oneShotOf m salt xs out) ≡ length xs) × (reportBlocks (oneShotOf m salt xs out) ≡ length (blocksOf (familyOf m) m xs))
-  unfolding oneShotOf oneShotAnswer
-  counts-right =
-      let l = le-ltb limit (length xs) within in
-      let r = le-ltb (length out) (m / 8) room in
-      (rw (ok, fits, l, r), rw (ok, fits, l, r))
+  pub digest-right : (reportNumber (oneShotOf m salt x out) ≡ 0) × (oneShotBuffer m salt x out ≡ digestOf (familyOf m) m (fill 64 salt) x ++ drop (digestBytes m) out)
+  unfolding oneShotOf oneShotBuffer
+  digest-right = (rw accepted, rw (accepted, digest-length (familyOf m) m (fill 64 salt) x (m-max m ok)))
+
+  pub counts-right : (reportCovered (oneShotOf m salt x out) ≡ length (x .bytes)) × (reportBits (oneShotOf m salt x out) ≡ x .last .count)
+      × (reportBlocks (oneShotOf m salt x out) ≡ length (blocksOf (familyOf m) m x))
+  unfolding oneShotOf
+  counts-right = (rw accepted, rw accepted, rw accepted)
 
 -- Registers worked out from a log are those that the rule gives, event by event: `replayed` replaces one register an event. Each stands in its record, with
 -- the number of the log's events that extended it behind it.

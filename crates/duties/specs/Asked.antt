@@ -5,11 +5,14 @@ use mathlib.Core.List.{List, [], _∷_}
 use Prim.Native.Nat.{ℕ}
 use lib.ListN.{length}
 use Rattle.answers.specs.declared.checked.Verdict.the-variants.{NoClaim}
+use Rattle.answers.specs.declared.report.Report.{Report}
 use Rattle.answers.specs.Refusal.{answerNumber}
-use Rattle.answers.specs.Report.{reportNumber, reportCovered, reportBlocks}
+use Rattle.answers.specs.Report.{reportNumber, reportCovered, reportBits, reportBlocks}
 use Rattle.answers.specs.Reading.{readingNumber, readingRegisters, readingEvents}
 use Rattle.answers.specs.Checked.{checkNumber, checkRegisters, checkEvents, checkBlocks, checkVerdict}
 use Rattle.answers.specs.Written.{writtenNumber, writtenLength}
+use Rattle.bits.specs.declared.LastBits.{LastBits}
+use Rattle.bits.specs.Message.{Message}
 use Rattle.state.specs.declared.State.{State}
 use Rattle.state.specs.State.{zeroState}
 use Rattle.digest.specs.Calls.{beginOf, addOf, finishOf, finishBuffer, oneShotOf, oneShotBuffer}
@@ -21,13 +24,13 @@ use Rattle.logger.specs.Write.{writeOf, writeBuffer}
 use Rattle.text.specs.Place.{placed}
 use Rattle.printout.specs.Printout.{printoutOf, printOf}
 
--- A call: digest length and salt; state and bytes; state and buffer; digest length, salt, message and buffer; state and buffer; saved form; log; log and
--- buffer; salt, starting registers, events, wish for claims and buffer.
+-- A call: digest length and salt; state and bytes; state, last bits and buffer; digest length, salt, message and buffer; state and buffer; saved form; log;
+-- log and buffer; salt, starting registers, events, wish for claims and buffer.
 pub data Asked : Type 0 where
   begin : ℕ → List ℕ → Asked
   add : State → List ℕ → Asked
-  finish : State → List ℕ → Asked
-  oneShot : ℕ → List ℕ → List ℕ → List ℕ → Asked
+  finish : State → LastBits → List ℕ → Asked
+  oneShot : ℕ → List ℕ → Message → List ℕ → Asked
   save : State → List ℕ → Asked
   load : List ℕ → Asked
   read : List ℕ → Asked
@@ -39,8 +42,8 @@ pub data Asked : Type 0 where
 unfoldable pub answered : Asked → ℕ
 answered (begin m salt) = answerNumber (beginOf m salt .answer)
 answered (add s xs) = answerNumber (addOf s xs .answer)
-answered (finish s out) = reportNumber (finishOf s out .report)
-answered (oneShot m salt xs out) = reportNumber (oneShotOf m salt xs out)
+answered (finish s last out) = reportNumber (finishOf s last out .report)
+answered (oneShot m salt x out) = reportNumber (oneShotOf m salt x out)
 answered (save s out) = writtenNumber (saveOf s out .written)
 answered (load form) = answerNumber (loadOf form .answer)
 answered (read log) = readingNumber (readingOf log)
@@ -48,13 +51,13 @@ answered (check log out) = checkNumber (checkOf log (length out))
 answered (print log out) = writtenNumber (printOf log (length out))
 answered (write salt starts events wish out) = writtenNumber (writeOf salt starts events wish (length out))
 
--- Document 01, "Order: begin 1, 2; add 4, 3; finish 4, 5; one-shot 1, 2, 3, 5"; of a log 6, 7 and 8, then 5. Document 02, One:
--- reader 9, 10, then 4; writer 4, 5. Three: 2, 7, 8, 5. 0 stands for acceptance.
+-- Document 01, "Order: begin 1, 2; add 4, 3", and finish and one-shot with document 02's 11 just before 5: finish 4, 11, 5; one-shot 1, 2, 3, 11, 5. Of a log
+-- 6, 7 and 8, then 5. Document 02, One: reader 9, 10, then 4; writer 4, 5. Three: 2, 7, 8, 5. 0 stands for acceptance.
 unfoldable pub listed : Asked → List ℕ
 listed (begin m salt) = 0 ∷ 1 ∷ 2 ∷ []
 listed (add s xs) = 0 ∷ 4 ∷ 3 ∷ []
-listed (finish s out) = 0 ∷ 4 ∷ 5 ∷ []
-listed (oneShot m salt xs out) = 0 ∷ 1 ∷ 2 ∷ 3 ∷ 5 ∷ []
+listed (finish s last out) = 0 ∷ 4 ∷ 11 ∷ 5 ∷ []
+listed (oneShot m salt x out) = 0 ∷ 1 ∷ 2 ∷ 3 ∷ 11 ∷ 5 ∷ []
 listed (save s out) = 0 ∷ 4 ∷ 5 ∷ []
 listed (load form) = 0 ∷ 9 ∷ 10 ∷ 4 ∷ []
 listed (read log) = 0 ∷ 6 ∷ 7 ∷ 8 ∷ []
@@ -66,8 +69,8 @@ listed (write salt starts events wish out) = 0 ∷ 2 ∷ 7 ∷ 8 ∷ 5 ∷ []
 unfoldable pub StateBack : Asked → Type 0
 StateBack (begin m salt) = beginOf m salt .state ≡ zeroState
 StateBack (add s xs) = addOf s xs .state ≡ s
-StateBack (finish s out) = finishOf s out .state ≡ s
-StateBack (oneShot m salt xs out) = Unit {0}
+StateBack (finish s last out) = finishOf s last out .state ≡ s
+StateBack (oneShot m salt x out) = Unit {0}
 StateBack (save s out) = saveOf s out .state ≡ s
 StateBack (load form) = loadOf form .state ≡ zeroState
 StateBack (read log) = Unit {0}
@@ -79,8 +82,8 @@ StateBack (write salt starts events wish out) = Unit {0}
 unfoldable pub BufferKept : Asked → Type 0
 BufferKept (begin m salt) = Unit {0}
 BufferKept (add s xs) = Unit {0}
-BufferKept (finish s out) = finishBuffer s out ≡ out
-BufferKept (oneShot m salt xs out) = oneShotBuffer m salt xs out ≡ out
+BufferKept (finish s last out) = finishBuffer s last out ≡ out
+BufferKept (oneShot m salt x out) = oneShotBuffer m salt x out ≡ out
 BufferKept (save s out) = saveBuffer s out ≡ out
 BufferKept (load form) = Unit {0}
 BufferKept (read log) = Unit {0}
@@ -88,12 +91,16 @@ BufferKept (check log out) = checkBuffer log out ≡ out
 BufferKept (print log out) = placed out 0 (printoutOf log) ≡ out
 BufferKept (write salt starts events wish out) = writeBuffer salt starts events wish out ≡ out
 
+-- of a report
+abbrev pub NothingReported : Report → Type 0
+NothingReported r = (reportCovered r ≡ 0) × (reportBits r ≡ 0) × (reportBlocks r ≡ 0)
+
 -- It answers zero for every other value and count, and noclaim for the verdict.
 unfoldable pub ValuesZero : Asked → Type 0
 ValuesZero (begin m salt) = Unit {0}
 ValuesZero (add s xs) = Unit {0}
-ValuesZero (finish s out) = (reportCovered (finishOf s out .report) ≡ 0) × (reportBlocks (finishOf s out .report) ≡ 0)
-ValuesZero (oneShot m salt xs out) = (reportCovered (oneShotOf m salt xs out) ≡ 0) × (reportBlocks (oneShotOf m salt xs out) ≡ 0)
+ValuesZero (finish s last out) = NothingReported (finishOf s last out .report)
+ValuesZero (oneShot m salt x out) = NothingReported (oneShotOf m salt x out)
 ValuesZero (save s out) = writtenLength (saveOf s out .written) ≡ 0
 ValuesZero (load form) = Unit {0}
 ValuesZero (read log) = (readingRegisters (readingOf log) ≡ 0) × (readingEvents (readingOf log) ≡ 0)

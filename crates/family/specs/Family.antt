@@ -1,11 +1,11 @@
 -- The two families' numbers (document 01, "Two families").
 use mathlib.Core.Bool.{cond}
-use Prim.Native.Nat.{ℕ}
+use Prim.Native.Nat.{ℕ, _+_, _/_}
 use lib.Dec.{leb}
 use Rattle.family.specs.declared.Family.{Family}
 use Rattle.family.specs.declared.Family.the-variants.{Small, Large}
 
--- the table's head: up to 256 bits, and 264 to 512 bits
+-- the table's head: up to 256 bits, and up to 512 bits; 257 to 263 belong to the large family (document 02, Five)
 abbrev pub digestBits : Family → ℕ
 digestBits Small = 256
 digestBits Large = 512
@@ -44,10 +44,14 @@ abbrev pub lengthBytes : Family → ℕ
 lengthBytes Small = 8
 lengthBytes Large = 16
 
--- the largest remainder padded in one block
+-- the largest remainder padded in one block: "enough up to 431 bits of rest, a large one up to 879" (document 02, Five)
 abbrev pub padLimit : Family → ℕ
-padLimit Small = 53
-padLimit Large = 109
+padLimit Small = 431
+padLimit Large = 879
+
+-- where the length stands in a last block: the bytes behind it are the length's and m's
+abbrev pub lengthPlace : Family → ℕ
+lengthPlace f = (padLimit f + 1) / 8
 
 -- The expansion's numbers: the words of a block, which is also the far distance and the length of a run; the linear words' near distance;
 -- the salt's quads; the runs, nonlinear and linear in turn: "sixteen of each, four times", and "32 of each, six times, then a last nonlinear 32".

@@ -1,6 +1,6 @@
 // The two families, and their numbers: document 01's table, named here and nowhere else.
 ghost use mathlib.Core.Path.{_≡_};
-ghost use Rattle.family.specs.Family.{familyOf, familyNumber, blockBytes, chainWords, saltBytes, lengthBytes, padLimit, blockWords, nearDistance, saltQuads, runs};
+ghost use Rattle.family.specs.Family.{familyOf, familyNumber, blockBytes, chainWords, saltBytes, lengthBytes, padLimit, lengthPlace, blockWords, nearDistance, saltQuads, runs};
 
 pub enum Family {
     Small,
@@ -25,7 +25,9 @@ impl SmallFamily {
 
     pub const LENGTH_BYTES: usize = 8;
 
-    pub const PAD_LIMIT: usize = 53;
+    pub const PAD_LIMIT: usize = 431;
+
+    pub const LENGTH_PLACE: usize = (SmallFamily::PAD_LIMIT + 1) / 8;
 
     pub const BLOCK_WORDS: usize = 16;
 
@@ -36,7 +38,7 @@ impl SmallFamily {
     pub const RUNS: usize = 8;
 }
 
-// The column "264 to 512 bits".
+// The column up to 512 bits, from 257 on.
 pub struct LargeFamily;
 
 impl LargeFamily {
@@ -54,7 +56,9 @@ impl LargeFamily {
 
     pub const LENGTH_BYTES: usize = 16;
 
-    pub const PAD_LIMIT: usize = 109;
+    pub const PAD_LIMIT: usize = 879;
+
+    pub const LENGTH_PLACE: usize = (LargeFamily::PAD_LIMIT + 1) / 8;
 
     pub const BLOCK_WORDS: usize = 32;
 
@@ -123,12 +127,23 @@ impl Family {
         }
     }
 
+    // The most bits of rest that are padded in one block.
     pub fn pad_limit(self) -> usize
         ensures { λ r. ⌜ r ≡ padLimit self ⌝ }
     {
         match self {
             Family::Small => SmallFamily::PAD_LIMIT,
             Family::Large => LargeFamily::PAD_LIMIT,
+        }
+    }
+
+    // Where the length stands in a last block: behind a rest at the limit and its 1 bit.
+    pub fn length_place(self) -> usize
+        ensures { λ r. ⌜ r ≡ lengthPlace self ⌝ }
+    {
+        match self {
+            Family::Small => SmallFamily::LENGTH_PLACE,
+            Family::Large => LargeFamily::LENGTH_PLACE,
         }
     }
 

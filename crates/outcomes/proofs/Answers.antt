@@ -21,7 +21,7 @@ refusal-one r = one (refusalNumber r)
 pub answer-one : (a : Answer) → OneOutcome (λ (n : ℕ). n ≡ answerNumber a)
 answer-one a = one (answerNumber a)
 
--- `number`, `covered` and `blocks` of a report
+-- `number`, `covered`, `bits` and `blocks` of a report
 pub report-one : (value : Report → ℕ) (x : Report) → OneOutcome (λ (n : ℕ). n ≡ value x)
 report-one value x = one (value x)
 

@@ -5,6 +5,8 @@ use mathlib.Core.List.{List}
 use Prim.Native.Nat.{ℕ}
 use Rattle.outcome.specs.Outcome.{OneOutcome}
 use Rattle.outcome.proofs.Outcome.{one, one-pair}
+use Rattle.bits.specs.declared.LastBits.{LastBits}
+use Rattle.bits.specs.Message.{Message}
 use Rattle.state.specs.declared.State.{State}
 use Rattle.digest.specs.declared.calls.Step.{Step}
 use Rattle.answers.specs.declared.report.Report.{Report}
@@ -18,12 +20,13 @@ begin-one m salt = one (beginOf m salt)
 pub add-one : (s : State) (xs : List ℕ) → OneOutcome (λ (r : Step). r ≡ addOf s xs)
 add-one s xs = one (addOf s xs)
 
-pub finish-one : (s : State) (out : List ℕ) → OneOutcome (λ (o : Finished × List ℕ). (o .0 ≡ finishOf s out) × (o .1 ≡ finishBuffer s out))
-finish-one s out = one-pair (finishOf s out) (finishBuffer s out)
+pub finish-one : (s : State) (last : LastBits) (out : List ℕ)
+    → OneOutcome (λ (o : Finished × List ℕ). (o .0 ≡ finishOf s last out) × (o .1 ≡ finishBuffer s last out))
+finish-one s last out = one-pair (finishOf s last out) (finishBuffer s last out)
 
-pub one-shot-one : (m : ℕ) (salt xs out : List ℕ)
-    → OneOutcome (λ (o : Report × List ℕ). (o .0 ≡ oneShotOf m salt xs out) × (o .1 ≡ oneShotBuffer m salt xs out))
-one-shot-one m salt xs out = one-pair (oneShotOf m salt xs out) (oneShotBuffer m salt xs out)
+pub one-shot-one : (m : ℕ) (salt : List ℕ) (x : Message) (out : List ℕ)
+    → OneOutcome (λ (o : Report × List ℕ). (o .0 ≡ oneShotOf m salt x out) × (o .1 ≡ oneShotBuffer m salt x out))
+one-shot-one m salt x out = one-pair (oneShotOf m salt x out) (oneShotBuffer m salt x out)
 
 pub consistent-one : (s : State) → OneOutcome (λ (r : Bool). r ≡ consistentOf s)
 consistent-one s = one (consistentOf s)

@@ -1,6 +1,7 @@
 pub mod Answers
 pub mod Fields
 pub mod Hash
+pub mod Bits
 pub mod Digest
 pub mod Saved
 pub mod Records

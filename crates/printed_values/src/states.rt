@@ -2,6 +2,7 @@
 ghost use Prim.Native.Nat.{_≤_};
 use crate::messages::Message;
 use answers::Length;
+use bits::LastBits;
 use counter::Counter;
 use family::Family;
 use family::LargeFamily;
@@ -84,7 +85,7 @@ pub(crate) fn started_as_printed(m: u16, salted: bool) -> State {
 // A digest's bytes as words, the low byte first.
 pub(crate) fn ended_by_rule(state: State) -> [u32; 16] {
     let mut bytes = [0u8; 64];
-    digest::finish(state, &mut bytes);
+    digest::finish(state, LastBits::none(), &mut bytes);
     words_of(bytes)
 }
 
@@ -109,7 +110,7 @@ fn ended_with_length(state: State) -> [u32; 16] {
     let bits: u64 = 8000000;
     let mut block = [0u8; 128];
     block[0] = 0x80;
-    let at = SmallFamily::PAD_LIMIT + 1;
+    let at = SmallFamily::LENGTH_PLACE;
     block[at] = (bits % 256) as u8;
     block[at + 1] = (bits / 256 % 256) as u8;
     block[at + 2] = (bits / 65536) as u8;

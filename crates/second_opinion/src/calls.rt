@@ -39,9 +39,6 @@ fn named(line: &[u8]) -> Call {
     if n == 1 && fields::same(name, b"add") {
         return Call::Add;
     }
-    if n == 1 && fields::same(name, b"finish") {
-        return Call::Finish;
-    }
     if n == 1 && fields::same(name, b"save") {
         return Call::Save;
     }
@@ -54,11 +51,14 @@ fn named(line: &[u8]) -> Call {
     if n == 2 && fields::same(name, b"check") {
         return Call::Check;
     }
-    if n == 4 && fields::same(name, b"oneshot") {
-        return Call::OneShot;
+    if n == 3 && fields::same(name, b"finish") {
+        return Call::Finish;
     }
     if n == 5 && fields::same(name, b"write") {
         return Call::Write;
+    }
+    if n == 6 && fields::same(name, b"oneshot") {
+        return Call::OneShot;
     }
     if n == 7 && fields::same(name, b"state") {
         return Call::State;

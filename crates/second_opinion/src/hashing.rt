@@ -4,8 +4,10 @@ use crate::calls::Said;
 use crate::parse;
 use crate::parse::Bits;
 use crate::parse::Bytes;
+use crate::parse::Last;
 use crate::show;
 use crate::words;
+use bits::LastBits;
 use state::State;
 
 // The answer's number, and the state handed back.
@@ -37,6 +39,22 @@ pub(crate) fn add(line: &[u8], state: State, data: &mut [u8], out: &mut [u8]) ->
     stepped(out, b"add", digest::add(state, text::first(data, n)))
 }
 
+// How a digest ends: the last bits of its message, and how many bytes the lent buffer has.
+enum Ending {
+    Is(LastBits, usize),
+    Unreadable,
+}
+
+fn read_ending(byte: &[u8], count: &[u8], buffer: &[u8], lent: &mut [u8]) -> Ending {
+    let Last::Are(last) = parse::read_last(byte, count) else {
+        return Ending::Unreadable;
+    };
+    let Bytes::Are(n) = parse::read_bytes(buffer, lent) else {
+        return Ending::Unreadable;
+    };
+    Ending::Is(last, n)
+}
+
 // What finish reports, and the state handed back.
 fn reported(out: &mut [u8], finished: digest::Finished) -> usize {
     let report = finished.report;
@@ -47,33 +65,43 @@ fn reported(out: &mut [u8], finished: digest::Finished) -> usize {
 }
 
 pub(crate) fn finish(line: &[u8], state: State, lent: &mut [u8], out: &mut [u8]) -> usize {
-    let Bytes::Are(n) = parse::read_bytes(words::word(line, 1), lent) else {
+    let Ending::Is(last, n) = read_ending(
+        words::word(line, 1),
+        words::word(line, 2),
+        words::word(line, 3),
+        lent,
+    ) else {
         return show::unreadable(out);
     };
     if n > lent.len() {
         return show::unreadable(out);
     }
-    let finished = digest::finish(state, &mut lent[0..n]);
+    let finished = digest::finish(state, last, &mut lent[0..n]);
     let at = reported(out, finished);
     show::bytes(out, at, &lent[0..n])
 }
 
-// One-shot on a salt and bytes that are read, with the word of the buffer.
+// One-shot on a salt and bytes that are read, with the last bits and the buffer that the line holds.
 fn into_buffer(
+    line: &[u8],
     m: u16,
     salt: &[u8],
     data: &[u8],
-    word: &[u8],
     lent: &mut [u8],
     out: &mut [u8],
 ) -> usize {
-    let Bytes::Are(n) = parse::read_bytes(word, lent) else {
+    let Ending::Is(last, n) = read_ending(
+        words::word(line, 4),
+        words::word(line, 5),
+        words::word(line, 6),
+        lent,
+    ) else {
         return show::unreadable(out);
     };
     if n > lent.len() {
         return show::unreadable(out);
     }
-    let report = digest::one_shot(m, salt, data, &mut lent[0..n]);
+    let report = digest::one_shot(m, salt, data, last, &mut lent[0..n]);
     let a = text::put(out, 0, b"oneshot");
     let b = show::report(out, a, report);
     show::bytes(out, b, &lent[0..n])
@@ -96,10 +124,10 @@ pub(crate) fn one_shot(
         return show::unreadable(out);
     };
     into_buffer(
+        line,
         m,
         text::first(salt, s),
         text::first(data, d),
-        words::word(line, 4),
         lent,
         out,
     )

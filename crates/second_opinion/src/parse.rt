@@ -1,7 +1,7 @@
 // Reading a word: a byte string in lower-case hex, or a number in decimal.
 ghost use Prim.Native.Nat.{_*_, _≤_};
 ghost use lib.ListN.{length};
-use crate::words;
+use bits::LastBits;
 use family::Family;
 
 // How many bytes were read. No contract bounds the number, so whoever takes that part of a slice tests it again.
@@ -17,6 +17,11 @@ pub(crate) enum Number {
 
 pub(crate) enum Bits {
     Are(u16),
+    Unreadable,
+}
+
+pub(crate) enum Last {
+    Are(LastBits),
     Unreadable,
 }
 
@@ -110,6 +115,24 @@ pub(crate) fn read_bits(word: &[u8]) -> Bits {
         return Bits::Unreadable;
     }
     Bits::Are(n as u16)
+}
+
+// The last bits of a message: one byte, and a number up to 255.
+pub(crate) fn read_last(byte: &[u8], count: &[u8]) -> Last {
+    let mut first = [0u8; 1];
+    if !fills(byte, &mut first) {
+        return Last::Unreadable;
+    }
+    let Number::Is(n) = read_number(count) else {
+        return Last::Unreadable;
+    };
+    if n > 255 {
+        return Last::Unreadable;
+    }
+    Last::Are(LastBits {
+        byte: first[0],
+        count: n as u8,
+    })
 }
 
 pub(crate) fn read_family(word: &[u8]) -> Kind {

@@ -69,11 +69,12 @@ pub(crate) fn state(out: &mut [u8], at: usize, state: State) -> usize {
     progress(out, to, state)
 }
 
-// The refusal number or 0, the bytes covered and the blocks compressed.
+// The refusal number or 0, the bytes and bits covered and the blocks compressed.
 pub(crate) fn report(out: &mut [u8], at: usize, report: Report) -> usize {
     let a = number(out, at, report.number() as u64);
     let b = number(out, a, report.covered());
-    number(out, b, report.blocks())
+    let c = number(out, b, report.bits() as u64);
+    number(out, c, report.blocks())
 }
 
 // The refusal number or 0, and how many bytes were written.

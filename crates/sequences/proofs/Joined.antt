@@ -11,6 +11,8 @@ use Rattle.answers.specs.declared.refusal.Refusal.{Refusal}
 use Rattle.answers.specs.declared.refusal.Refusal.the-variants.{MessageLimit, StateInconsistent}
 use Rattle.answers.specs.declared.refusal.Answer.{Answer}
 use Rattle.answers.specs.declared.refusal.Answer.the-variants.{Accepted, Refused}
+use Rattle.bits.specs.declared.LastBits.{LastBits}
+use Rattle.bits.specs.Message.{messageOf}
 use Rattle.state.specs.declared.State.{State}
 use Rattle.answers.specs.Refusal.{ifAccepted}
 use Rattle.state.specs.State.{limit, allowed, consistentOf, zeroState}
@@ -48,9 +50,9 @@ module _ (s : State) (xs : List ℕ) where
   unfolding addOf addAnswer
   add-in h room = rw (h, le-ltb limit (s .covered .0 + length xs) room)
 
-  pub finish-hands-back : finishOf s xs .state ≡ s
+  pub finish-hands-back : (last : LastBits) → finishOf s last xs .state ≡ s
   unfolding finishOf
-  finish-hands-back = refl
+  finish-hands-back last = refl
 
 module _ (s : State) (full : length (s .held) ≡ 128) where
   pub absorbed-consistent : consistentOf s ≡ true → (xs : List ℕ) → s .covered .0 + length xs ≤ limit → consistentOf (absorbed s xs) ≡ true
@@ -83,7 +85,7 @@ module _ (m : ℕ) (salt : List ℕ) where
       by : (a : Answer) → ifAccepted a (absorbed (stateOf m salt xs) ys) (stateOf m salt xs) ≡ stateOf m salt (xs ++ ifAccepted a ys [])
       by Accepted = state-absorbed m salt xs ys
       by (Refused r) = rw append-nil
-  call-joined xs (finish out) = rw append-nil
+  call-joined xs (finish last out) = rw append-nil
 
   call-room : (xs : List ℕ) → length xs ≤ limit → (call : Call) → length (xs ++ taken (stateOf m salt xs) call) ≤ limit
   unfolding taken stateOf
@@ -92,7 +94,7 @@ module _ (m : ℕ) (salt : List ℕ) where
       by : (a : Answer) → addAnswer (stateOf m salt xs) ys ≡ a → length (xs ++ ifAccepted a ys []) ≤ limit
       by Accepted h = rw length-append (add-accepted (stateOf m salt xs) ys h .1)
       by (Refused r) h = rw append-nil room
-  call-room xs room (finish out) = rw append-nil room
+  call-room xs room (finish last out) = rw append-nil room
 
   pub after-joined : (xs : List ℕ) (calls : List Call) → after (stateOf m salt xs) calls ≡ stateOf m salt (xs ++ joined (stateOf m salt xs) calls)
   unfolding after joined
@@ -112,7 +114,8 @@ module _ (m : ℕ) (salt : List ℕ) where
     pub joined-length : length (joined (beginOf m salt .state) calls) ≤ limit
     joined-length = rw (begin-state m salt h) (joined-room [] (omega arith) calls)
 
-    -- Finishing it reports and writes what one-shot does for those bytes.
-    pub calls-finish : (out : List ℕ) → (finishOf (after (beginOf m salt .state) calls) out .report ≡ oneShotOf m salt (joined (beginOf m salt .state) calls) out)
-        × (finishBuffer (after (beginOf m salt .state) calls) out ≡ oneShotBuffer m salt (joined (beginOf m salt .state) calls) out)
-    calls-finish out = rw calls-joined (finish-one-shot m salt h (joined (beginOf m salt .state) calls) joined-length out)
+    -- Finishing it with any last bits reports and writes what one-shot does for those bytes and bits.
+    pub calls-finish : (last : LastBits) (out : List ℕ)
+        → (finishOf (after (beginOf m salt .state) calls) last out .report ≡ oneShotOf m salt (messageOf (joined (beginOf m salt .state) calls) last) out)
+        × (finishBuffer (after (beginOf m salt .state) calls) last out ≡ oneShotBuffer m salt (messageOf (joined (beginOf m salt .state) calls) last) out)
+    calls-finish last out = rw calls-joined (finish-one-shot m salt h (joined (beginOf m salt .state) calls) joined-length last out)

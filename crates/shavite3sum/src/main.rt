@@ -6,6 +6,7 @@ mod output;
 use answers::Answer;
 use arguments::Asked;
 use arguments::Salt;
+use bits::LastBits;
 use libc::STDOUT_FILENO;
 use state::State;
 use streaming::Status;
@@ -13,9 +14,9 @@ use streaming::Status;
 fn print_finished(state: State) {
     let m = state.m;
     let mut bytes = [0u8; 64];
-    let finished = digest::finish(state, &mut bytes);
+    let finished = digest::finish(state, LastBits::none(), &mut bytes);
     let report = finished.report;
-    output::print_report(report, &bytes, (m / 8) as usize);
+    output::print_report(report, &bytes, bits::digest_bytes(m));
 }
 
 fn digest_input(state: State) {

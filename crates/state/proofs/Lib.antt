@@ -1,4 +1,5 @@
 pub mod Filling
+pub mod Limits
 pub mod Soundness
 pub mod Tests
 pub mod Zeros

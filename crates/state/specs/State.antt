@@ -9,15 +9,19 @@ use Rattle.family.specs.Family.{digestBits, blockBytes, chainWords, saltBytes}
 use Rattle.state.specs.declared.State.{State}
 use Rattle.state.specs.Bytes.{allZero}
 
--- the most bytes that a message may have
+-- "the limit becomes 2^64 - 1 bits" (document 02, Five)
+abbrev pub bitLimit : ℕ
+bitLimit = 2 ^ 64 - 1
+
+-- the most whole bytes of a message: 2^61 - 1
 abbrev pub limit : ℕ
-limit = 2 ^ 61 - 1
+limit = bitLimit / 8
 
--- m is not 0, not over 512, and a multiple of 8
+-- "m may be 1 to 512" (document 02, Five): not 0 and not over 512
 unfoldable pub allowed : ℕ → Bool
-allowed m = ltb 0 m && leb m (digestBits Large) && eqb (m % 8) 0
+allowed m = ltb 0 m && leb m (digestBits Large)
 
--- up to 256 bits, and 264 to 512 bits
+-- up to 256 bits, and from 257 on
 unfoldable pub belongs : Family → ℕ → Bool
 belongs Small m = leb m (digestBits Small)
 belongs Large m = ltb (digestBits Small) m

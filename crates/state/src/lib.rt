@@ -19,8 +19,11 @@ pub struct State {
     pub held: [u8; 128],
 }
 
-// 2^61 - 1: the most bytes that a message may have.
-pub const LIMIT: u64 = 2305843009213693951;
+// The most bits that a message may have: 2^64 - 1.
+pub const BIT_LIMIT: u64 = u64::MAX;
+
+// The most whole bytes: 2^61 - 1.
+pub const LIMIT: u64 = BIT_LIMIT / 8;
 
 // Whether a digest can have m bits.
 pub fn is_allowed(m: u16) -> bool
@@ -29,10 +32,7 @@ pub fn is_allowed(m: u16) -> bool
     if m == 0 {
         return false;
     }
-    if m > LargeFamily::DIGEST_BITS {
-        return false;
-    }
-    m % 8 == 0
+    m <= LargeFamily::DIGEST_BITS
 }
 
 fn is_of(family: Family, m: u16) -> bool

@@ -1,8 +1,6 @@
--- The three tests are those of the rule, in its order.
+-- The two tests are those of the rule, in its order.
 use native.Mathlib.Omega.{arith}
-use borrow.Author.Tests.{lt-ltb, le-ltb, le-leb, lt-leb}
-use Rattle.family.specs.declared.Family.the-variants.{Large}
-use Rattle.family.specs.Family.{digestBits}
+use borrow.Author.Tests.{lt-ltb, le-ltb}
 use Rattle.state.specs.State.{allowed}
 use Rattle.state.proofs.is_allowed.Statement.{statement}
 use Rattle.state.proofs.is_allowed.Tie as tie
@@ -13,11 +11,7 @@ returns c = rw (le-ltb 0 (c .before .args .m) (omega arith))
 
 returns-2 : tie.Need-returns-2
 unfolding allowed
-returns-2 c = rw (lt-ltb 0 (c .before .before .args .m) (omega arith), lt-leb (c .before .before .args .m) (digestBits Large) (omega arith))
-
-returns-3 : tie.Need-returns-3
-unfolding allowed
-returns-3 c = rw (lt-ltb 0 (c .before .before .args .m) (omega arith), le-leb (c .before .before .args .m) (digestBits Large) (omega arith))
+returns-2 c = rw (lt-ltb 0 (c .before .args .m) (omega arith))
 
 pub is-allowed-spec : {M : Type 1} → statement M
-is-allowed-spec = tie.close (tie.spec returns returns-2 returns-3)
+is-allowed-spec = tie.close (tie.spec returns returns-2)

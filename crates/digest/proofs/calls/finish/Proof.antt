@@ -1,13 +1,14 @@
--- The tests are the rule's, in its order; what is copied out is the first m/8 bytes of the last chain.
+-- The tests are the rule's, in its order; what is copied out is the first m bits of the last chain.
 use mathlib.Core.Path.{_≡_, sym, _∙_}
 use mathlib.Core.Bool.{true}
 use native.Mathlib.Omega.{arith}
 use lib.ListN.{length, length-map}
 use borrow.Author.Needs.{needs}
+use Rattle.bits.specs.Bits.{lastFits}
 use Rattle.state.specs.State.{consistentOf}
 use Rattle.state.proofs.Soundness.{sound}
 use Rattle.answers.proofs.Tests.{fell, held}
-use Rattle.digest.proofs.Answers.{m-max, closing-max, count-max, finish-not, finish-short, finish-refused, finished}
+use Rattle.digest.proofs.Answers.{closing-max, count-max, size-max, finish-not, finish-unfit, finish-short, finish-refused, finished}
 use Rattle.digest.proofs.calls.finish.Statement.{statement}
 use Rattle.digest.proofs.calls.finish.Tie as tie
 
@@ -18,35 +19,52 @@ sixteen c = sym (length-map (c .args .state .chain) (λ v. v)) ∙ c .good .0 .1
 ok : (c : tie.Else1) → consistentOf (c .before .before .before .args .state) ≡ true
 ok c = held (c .before .consistent .ensures) (c .if1 .left)
 
+fits : (c : tie.Else2) → lastFits (c .before .before .before .before .before .args .last) ≡ true
+fits c = held (c .before .fits2 .ensures) (c .if2 .left)
+
 returns : tie.Need-returns
 returns c =
-    let o = c .before .before .before .args .out .now in
-    finish-refused _ o (finish-not _ o (fell (c .before .consistent .ensures) (c .if1 .taken)))
+    let a = c .before .before .before .args in
+    finish-refused _ (a .last) (a .out .now) (finish-not _ (a .last) (a .out .now) (fell (c .before .consistent .ensures) (c .if1 .taken)))
 
 returns-2 : tie.Need-returns-2
 returns-2 c =
-    let o = c .before .before .before .before .args .out .now in
-    finish-refused _ o (finish-short _ o (ok (c .before)) (c .if2 .taken))
-
-copy-out-requires : tie.Need-copy-out-requires
-copy-out-requires c κs =
-    let e = c .before .before .before .before in
-    (m-max (e .before .before .before .before .args .state .m) (sound _ (ok (e .before)) .allowed), e .if2 .left)
-
-add-compressed : tie.Need-add-compressed
-add-compressed c =
-    let d = c .before .before .before .before .before .before .before .before .before in
-    let e = d .before .before in
-    let s = e .before .before .before .args .state in
-    omega (arith, d .close .ensures .1, closing-max s, count-max s (sound _ (ok e)))
+    let e = c .before .before in
+    let a = e .before .before .before .args in
+    finish-refused _ (a .last) (a .out .now) (finish-unfit _ (a .last) (a .out .now) (ok e) (fell (c .before .fits2 .ensures) (c .if2 .taken)))
 
 returns-3 : tie.Need-returns-3
 returns-3 c =
+    let d = c .before .before in
+    let e = d .before .before in
+    let a = e .before .before .before .args in
+    finish-refused _ (a .last) (a .out .now) (finish-short _ (a .last) (a .out .now) (ok e) (fits d) (c .before .digest-bytes .ensures) (c .if3 .taken))
+
+copy-out-requires : tie.Need-copy-out-requires
+copy-out-requires c κs =
+    let g = c .before .before .before .before .before in
+    let d = g .before .before in
+    let e = d .before .before in
+    let a = e .before .before .before .args in
+    (size-max (a .state) (a .last) (a .out .now) (ok e) (fits d) (g .before .digest-bytes .ensures), g .if3 .left)
+
+add-compressed : tie.Need-add-compressed
+add-compressed c =
+    let k = c .before .before .before .before .before .before .before .before .before .before in
+    let e = k .before .before .before .before .before in
+    let a = e .before .before .before .args in
+    omega (arith, k .close .ensures .1, closing-max (a .state) (a .last), count-max (a .state) (sound _ (ok e)))
+
+returns-4 : tie.Need-returns-4
+returns-4 c =
     let p = c .before .before .before .before .before .before .before in
-    let d = p .before .before in
+    let k = p .before .before .before in
+    let g = k .before in
+    let d = g .before .before in
     let e = d .before .before in
     let a = e .before .before .before in
-    finished (a .args .state) (a .args .out .now) (ok e) (d .before .if2 .left) (sixteen a) (p .spell .result) (d .close .ensures) (p .spell .ensures) (c .before .before .before .before .before .copy-out .ensures)
+    finished (a .args .state) (a .args .last) (a .args .out .now) (ok e) (fits d) (g .before .digest-bytes .ensures) (g .if3 .left) (sixteen a)
+    (k .close .ensures) (p .before .spell .ensures) (p .keep .ensures) (c .before .before .before .before .before .copy-out .ensures)
 
 pub finish-spec : {M : Type 1} → statement M
 finish-spec =
@@ -54,11 +72,14 @@ finish-spec =
     (tie.spec
     (λ c κs. search needs)
     returns
-    (λ c. search needs)
+    (λ c κs. search needs)
     returns-2
-    (λ c κs. ok (c .before))
+    (λ c κs. search needs)
+    returns-3
+    (λ c κs. (ok (c .before .before .before .before), fits (c .before .before)))
+    (λ c κs. search needs)
     (λ c κs. search needs)
     copy-out-requires
     add-compressed
     (λ c. search needs)
-    returns-3)
+    returns-4)

@@ -7,29 +7,25 @@ use Rattle.digest.proofs.Closing.{length-stored}
 use Rattle.digest.proofs.calls.with_length.Statement.{statement}
 use Rattle.digest.proofs.calls.with_length.Tie as tie
 
-add-at : tie.Need-add-at
-add-at c = omega (arith, c .pad-limit .ensures, sizes (c .before .args .family), block-max (c .before .args .family))
-
 -- both numbers fit into the block
-room : (c : tie.After-length-bytes) → c .before .pad-limit .result + 1 + c .length-bytes .result + 2 ≤ 128
+room : (c : tie.After-length-bytes) → c .before .length-place .result + c .length-bytes .result + 2 ≤ 128
 room c =
     let f = c .before .before .args .family in
-    omega (arith, c .before .pad-limit .ensures, c .length-bytes .ensures, sizes f, block-max f)
+    omega (arith, c .before .length-place .ensures, c .length-bytes .ensures, sizes f, block-max f)
 
 returns : tie.Need-returns
 returns c =
     let l = c .before .before .before in
     let a = l .before .before .args in
-    length-stored (a .family) (a .block) (a .covered .0) (a .m) (l .before .pad-limit .ensures) (l .length-bytes .ensures) (c .before .put-le .ensures) (c .put-le2 .ensures)
+    length-stored (a .family) (a .block) (a .m) (l .before .length-place .ensures) (l .length-bytes .ensures) (c .before .before .bits-of .ensures) (c .before .put-le .ensures) (c .put-le2 .ensures)
 
 pub with-length-spec : {M : Type 1} → statement M
 with-length-spec =
     tie.close
     (tie.spec
     (λ c κs. search needs)
-    add-at
     (λ c κs. search needs)
-    (λ c. search needs)
+    (λ c κs. search needs)
     (λ c κs. search needs)
     (λ c. omega (arith, room (c .before .before)))
     (λ c κs. search needs)

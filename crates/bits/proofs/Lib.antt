@@ -1,0 +1,3 @@
+pub mod Weights
+pub mod Fitting
+pub mod Firsts
