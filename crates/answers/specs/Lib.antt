@@ -1,5 +1,2 @@
 pub mod Refusal
-pub mod Report
-pub mod Reading
-pub mod Checked
 pub mod Written

@@ -1,17 +1,8 @@
-// What the calls answer: refusals with their numbers, and for each answer that is an enum the number and values of its cases.
-mod checked;
-mod reading;
+// What the calls answer: refusals with their numbers, the answer of a call that hands back a state, and that of one that writes.
 mod refusal;
-mod report;
 mod written;
 
-pub use checked::Checked;
-pub use checked::Verdict;
-pub use reading::Layout;
-pub use reading::Reading;
 pub use refusal::Answer;
 pub use refusal::Refusal;
 pub use refusal::also;
-pub use report::Length;
-pub use report::Report;
 pub use written::Written;

@@ -14,8 +14,8 @@ use Rattle.bits.specs.Message.{Message}
 use Rattle.bits.proofs.Firsts.{first-whole}
 use Rattle.startup.specs.Startup.{startOf}
 use Rattle.startup.proofs.Started.{start-length}
-use Rattle.digest.specs.Blocks.{blocksOf, chainOver, digestOf}
-use Rattle.digest.proofs.Blocking.{chain-length}
+use Rattle.finishing.specs.Blocks.{blocksOf, chainOver, digestOf}
+use Rattle.finishing.proofs.Blocking.{chain-length}
 use Rattle.bit_lists.specs.BitLists.{bitsOfByte, bitsOf}
 use Rattle.bit_lists.proofs.Bytes.{high-bits, byte-length, bits-append, bits-length}
 

@@ -17,9 +17,9 @@ use Rattle.bits.specs.Message.{Message, messageOf, bitLength}
 use Rattle.bits.proofs.Fitting.{at-most-7}
 use Rattle.state.specs.Bytes.{fill}
 use Rattle.state.proofs.Filling.{fill-length, fill-nil}
-use Rattle.digest.specs.Blocks.{wholeBlocks, lastBlock, lastBlocks, blocksOf}
-use Rattle.digest.proofs.Blocking.{rest-small, rest-split}
-use Rattle.digest.proofs.Endings.{last-cases}
+use Rattle.finishing.specs.Blocks.{wholeBlocks, lastBlock, lastBlocks, blocksOf}
+use Rattle.finishing.proofs.Blocking.{rest-small, rest-split}
+use Rattle.finishing.proofs.Endings.{last-cases}
 use Rattle.bit_lists.specs.BitLists.{bitsOf, messageBits, blocksJoined, Divided, Padded}
 use Rattle.bit_lists.proofs.Bytes.{marked-bits, bits-append, bits-zeros}
 

@@ -7,7 +7,7 @@ use Rattle.family.specs.declared.Family.{Family}
 use Rattle.family.specs.Family.{blockBytes, lengthBytes}
 use Rattle.fields.specs.Fields.{le}
 use Rattle.bits.specs.Message.{Message, bitLength}
-use Rattle.digest.specs.Blocks.{blocksOf}
+use Rattle.finishing.specs.Blocks.{blocksOf}
 
 -- the eight bits of a byte
 unfoldable pub bitsOfByte : ℕ → List ℕ

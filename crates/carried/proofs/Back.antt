@@ -28,7 +28,7 @@ use Rattle.fields.proofs.There.{There, number-there, behind, there}
 use Rattle.family.proofs.Sizes.{block-max, words-max, salt-max}
 use Rattle.state.proofs.Filling.{fill-zeros}
 use Rattle.state.proofs.Soundness.{Sound, sound}
-use Rattle.digest.proofs.Answers.{m-max}
+use Rattle.finishing.proofs.Answers.{m-max}
 use Rattle.digest.proofs.Shot.{passed}
 use Rattle.word_bounds.proofs.Below.{Below}
 use Rattle.saved_form.proofs.Lengths.{parameters-size, salt-size, words-count, chain-size, rest-below, held-size, form-length}

@@ -17,9 +17,10 @@ use Rattle.startup.specs.Startup.{startOf}
 use Rattle.state.specs.declared.State.{State}
 use Rattle.state.specs.Bytes.{fill}
 use Rattle.state.specs.State.{limit}
-use Rattle.digest.specs.Blocks.{wholeBlocks, chainOver}
+use Rattle.finishing.specs.Blocks.{wholeBlocks, chainOver}
 use Rattle.digest.specs.Running.{stateOf}
-use Rattle.digest.specs.Calls.{saltFits, beginAnswer, beginOf, finishOf, finishBuffer, oneShotOf, oneShotBuffer}
+use Rattle.digest.specs.Calls.{saltFits, beginAnswer, beginOf, oneShotOf, oneShotBuffer}
+use Rattle.finishing.specs.Finish.{finishOf, finishBuffer}
 use Rattle.sequences.specs.Sequences.{Call, afterCall, after, taken, joined}
 use Rattle.saving.specs.Calls.{saveAnswer, saveOf}
 use Rattle.loading.specs.Calls.{loadOf}
@@ -30,7 +31,7 @@ use Rattle.startup.proofs.Started.{start-length}
 use Rattle.word_bounds.proofs.Below.{Below, compress-below, start-below}
 use Rattle.state.proofs.Filling.{fill-length}
 use Rattle.digest.proofs.Tests.{salt-size}
-use Rattle.digest.proofs.Blocking.{chain-length}
+use Rattle.finishing.proofs.Blocking.{chain-length}
 use Rattle.digest.proofs.Cuts.{state-full}
 use Rattle.digest.proofs.Shot.{begin-accepted, begin-state}
 use Rattle.sequences.proofs.Joined.{after-joined, calls-joined, joined-length, calls-finish}

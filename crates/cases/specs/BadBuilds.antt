@@ -20,11 +20,12 @@ use Rattle.bits.specs.Message.{Message, whole}
 use Rattle.state.specs.declared.State.{State}
 use Rattle.fields.specs.Fields.{le, bytesOf}
 use Rattle.state.specs.Bytes.{fill, allZero}
-use Rattle.digest.specs.Blocks.{wholeBlocks, lastBlock, lastBlocks, blocksOf, chainOver, digestOf}
+use Rattle.finishing.specs.Blocks.{wholeBlocks, lastBlock, lastBlocks, blocksOf, chainOver, digestOf}
 use Rattle.state.specs.State.{allowed, belongs, zeroPast, consistentOf}
-use Rattle.digest.specs.Running.{stateOf, heldOf, absorbed}
+use Rattle.digest.specs.Running.{stateOf, absorbed}
+use Rattle.finishing.specs.Finish.{heldOf}
 use Rattle.digest.specs.Calls.{saltFits, beginAnswer, beginOf, addAnswer, addOf, oneShotAnswer, oneShotOf, oneShotBuffer}
-use Rattle.answers.specs.Report.{reportBlocks}
+use Rattle.reports.specs.Report.{reportBlocks}
 use Rattle.sequences.specs.Sequences.{add, after, afterCall}
 
 -- One that refuses everything: begin of 256 bits with an empty salt is accepted.

@@ -9,7 +9,7 @@ use Rattle.family.specs.declared.Family.{Family}
 use Rattle.family.specs.declared.Family.the-variants.{Small, Large}
 use Rattle.bits.specs.Bits.{noBits}
 use Rattle.bits.specs.Message.{whole}
-use Rattle.digest.specs.Blocks.{wholeBlocks, lastBlocks, blocksOf}
+use Rattle.finishing.specs.Blocks.{wholeBlocks, lastBlocks, blocksOf}
 
 -- the counters of a message of b bytes, all 0, with no last bits, and a digest of m bits
 abbrev countersOf : Family → ℕ → ℕ → List ℕ

@@ -13,10 +13,10 @@ use Rattle.family.specs.Family.{blockBytes}
 use Rattle.family.proofs.Sizes.{block-pos}
 use Rattle.counter.specs.Counter.{counterOf}
 use Rattle.bits.specs.Message.{Message, messageOf, bitLength}
-use Rattle.digest.specs.Blocks.{wholeBlocks, lastBlocks, blocksOf}
+use Rattle.finishing.specs.Blocks.{wholeBlocks, lastBlocks, blocksOf}
 use Rattle.state.specs.State.{bitLimit}
-use Rattle.digest.proofs.Blocking.{rest-split}
-use Rattle.digest.proofs.Endings.{last-cases}
+use Rattle.finishing.proofs.Blocking.{rest-split}
+use Rattle.finishing.proofs.Endings.{last-cases}
 use Rattle.counter_lists.specs.Lists.{wordsRead, handed, absent, distinct}
 use Rattle.counter_lists.proofs.Words.{numberRead, words-tell}
 

@@ -17,13 +17,13 @@ use Rattle.bits.specs.declared.LastBits.{LastBits}
 use Rattle.bits.specs.Bits.{weight, lastFits, marked}
 use Rattle.bits.specs.Message.{Message, messageOf, whole, bitLength}
 use Rattle.bits.proofs.Fitting.{at-most-7}
-use Rattle.digest.specs.Blocks.{wholeBlocks, lastBlock, lastBlocks, blocksOf}
+use Rattle.finishing.specs.Blocks.{wholeBlocks, lastBlock, lastBlocks, blocksOf}
 use Rattle.state.specs.State.{bitLimit, allowed}
 use Rattle.fields.proofs.Numbers.{le-length}
 use Rattle.state.proofs.Filling.{fill-length}
-use Rattle.digest.proofs.Blocking.{rest-small, rest-split}
-use Rattle.digest.proofs.Endings.{last-cases}
-use Rattle.digest.proofs.Answers.{m-max}
+use Rattle.finishing.proofs.Blocking.{rest-small, rest-split}
+use Rattle.finishing.proofs.Endings.{last-cases}
+use Rattle.finishing.proofs.Answers.{m-max}
 use Rattle.counter_lists.specs.Lists.{handed, Opens}
 use Rattle.counter_lists.proofs.Counters.{numbered, handed-numbered}
 

@@ -7,7 +7,7 @@ use Rattle.family.specs.declared.Family.the-variants.{Small, Large}
 use Rattle.counter.specs.declared.Counter.{Counter}
 use Rattle.counter.specs.Counter.{counterOf}
 use Rattle.bits.specs.Message.{Message}
-use Rattle.digest.specs.Blocks.{blocksOf}
+use Rattle.finishing.specs.Blocks.{blocksOf}
 
 -- "counter": the words of it that a family's compression reads, the low one first: two in the small family, four in the large
 unfoldable pub wordsRead : Family → Counter → List ℕ

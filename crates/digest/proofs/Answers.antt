@@ -1,47 +1,37 @@
--- The four calls' answers: where a test decides, and where none does.
+-- The answers of begin, add and one-shot: where a test decides, and where none does.
 use mathlib.Core.Path.{_≡_, _∙_}
 use mathlib.Core.Bool.{true, false}
-use mathlib.Core.List.{List, [], _++_}
-use Prim.Native.Nat.{ℕ, _+_, _*_, _≤_, _<_}
+use mathlib.Core.List.{List, []}
+use Prim.Native.Nat.{ℕ, _+_, _≤_, _<_}
 use native.Mathlib.Omega.{arith}
-use native.Mathlib.Nat.{zero-div, le-mul-of-pos-right}
-use lib.Dec.{leb, ltb}
-use lib.ListN.{length, take, drop, replicate}
+use native.Mathlib.Nat.{zero-div}
+use lib.ListN.{length, replicate}
 use lib.Seq.{drop-nil}
-use borrow.Author.Tests.{leb-true, lt-ltb, le-ltb}
+use borrow.Author.Tests.{lt-ltb, le-ltb}
 use Rattle.family.specs.declared.Family.{Family}
-use Rattle.family.specs.declared.Family.the-variants.{Large}
 use Rattle.startup.specs.Startup.{startOf}
-use Rattle.startup.proofs.Started.{start-length}
 use Rattle.answers.specs.declared.refusal.Refusal.{Refusal}
 use Rattle.answers.specs.declared.refusal.Refusal.the-variants.{DigestLength, SaltSize, MessageLimit, StateInconsistent, BufferShort, BitsUnfit}
 use Rattle.answers.specs.declared.refusal.Answer.{Answer}
 use Rattle.answers.specs.declared.refusal.Answer.the-variants.{Accepted, Refused}
-use Rattle.family.specs.Family.{digestBits, familyOf}
+use Rattle.family.specs.Family.{familyOf}
 use Rattle.bits.specs.declared.LastBits.{LastBits}
-use Rattle.bits.specs.Bits.{lastFits, digestBytes, kept, firstBits}
+use Rattle.bits.specs.Bits.{lastFits, digestBytes}
 use Rattle.bits.specs.Message.{Message, messageOf}
-use Rattle.bits.proofs.Firsts.{first-length}
 use Rattle.state.specs.declared.State.{State}
 use Rattle.digest.specs.declared.calls.Step.{Step}
-use Rattle.answers.specs.declared.report.Report.{Report}
-use Rattle.answers.specs.declared.report.Report.the-variants as report
-use Rattle.digest.specs.declared.calls.Finished.{Finished}
+use Rattle.reports.specs.declared.Report.{Report}
+use Rattle.reports.specs.declared.Report.the-variants as report
+use Rattle.finishing.specs.declared.Finished.{Finished}
 use Rattle.answers.specs.Refusal.{ifAccepted}
-use Rattle.fields.specs.Fields.{bytesOf}
 use Rattle.state.specs.Bytes.{fill}
-use Rattle.digest.specs.Blocks.{wholeBlocks, blocksOf, chainOver, digestOf}
+use Rattle.finishing.specs.Blocks.{wholeBlocks, chainOver}
 use Rattle.state.specs.State.{limit, allowed, consistentOf, zeroState}
-use Rattle.digest.specs.Running.{stateOf, heldOf, absorbed}
-use Rattle.digest.specs.Calls.{saltFits, beginAnswer, beginOf, addAnswer, addOf, closing, stateDigest, finishAnswer, finishOf, finishBuffer, oneShotAnswer, oneShotOf, oneShotBuffer}
-use Rattle.family.proofs.Sizes.{block-pos}
-use Rattle.answers.proofs.Tests.{and-right}
+use Rattle.digest.specs.Running.{stateOf, absorbed}
+use Rattle.finishing.specs.Finish.{finishOf, finishBuffer}
+use Rattle.digest.specs.Calls.{saltFits, beginAnswer, beginOf, addAnswer, addOf, oneShotAnswer, oneShotOf, oneShotBuffer}
 use Rattle.state.proofs.Filling.{fill-nil}
-use Rattle.fields.proofs.Numbers.{bytes-length}
-use Rattle.digest.proofs.Blocking.{chain-length}
-use Rattle.state.proofs.Soundness.{Sound, sound}
 use Rattle.digest.proofs.Cuts.{start-consistent, state-absorbed}
-use Rattle.digest.proofs.Endings.{last-cases}
 use Rattle.digest.proofs.Shot.{finish-one-shot}
 
 pub start-made : (m : ℕ) (salt : List ℕ) {f : Family} {chain filled : List ℕ} → f ≡ familyOf m → chain ≡ startOf f m → filled ≡ fill 64 salt
@@ -86,68 +76,6 @@ module _ (s : State) (xs : List ℕ) where
   pub added : {a : Answer} {t : State} → addAnswer s xs ≡ a → t ≡ ifAccepted a (absorbed s xs) s → _≡_ {A = Step} (record { answer = a; state = t }) (addOf s xs)
   unfolding addOf
   added e h = rw (e, h)
-
--- the digest's size
-pub m-max : (m : ℕ) → allowed m ≡ true → m ≤ 512
-unfolding allowed
-m-max m h = leb-true m (digestBits Large) (and-right (ltb 0 m) (leb m (digestBits Large)) h)
-
--- a digest has m/8 bytes rounded up
-pub digest-length : (f : Family) (m : ℕ) (salt : List ℕ) (x : Message) → m ≤ 512 → length (digestOf f m salt x) ≡ digestBytes m
-unfolding digestOf
-digest-length f m salt x h =
-    let chain = chainOver f salt (blocksOf f m x) (startOf f m) in
-    first-length m (bytesOf chain) (omega (arith, bytes-length chain, chain-length f salt (blocksOf f m x) (startOf f m) (start-length f m)))
-
--- finish compresses one block or two
-pub closing-max : (s : State) (last : LastBits) → length (closing s last) ≤ 2
-unfolding closing
-closing-max s last =
-    last-cases (λ (l : List (ℕ × List ℕ)). length l ≤ 2) (s .family) (s .m) (8 * s .covered .0 + last .count) (messageOf (heldOf s) last) (λ h. omega arith) (λ h. omega arith)
-
-pub count-max : (s : State) → Sound s → s .compressed ≤ limit
-count-max s ok = omega (arith, ok .within, ok .whole, le-mul-of-pos-right (s .compressed) (block-pos (s .family)))
-
--- finish
-module _ (s : State) (last : LastBits) (out : List ℕ) where
-  pub finish-not : consistentOf s ≡ false → finishAnswer s last out ≡ Refused StateInconsistent
-  unfolding finishAnswer
-  finish-not h = rw h
-
-  pub finish-refused : {r : Refusal} → finishAnswer s last out ≡ Refused r
-      → _≡_ {A = Finished} (record { report = report.Refused r; state = s }) (finishOf s last out) × (out ≡ finishBuffer s last out)
-  unfolding finishOf finishBuffer
-  finish-refused e = (rw e, rw e)
-
-  module _ (ok : consistentOf s ≡ true) where
-    pub finish-unfit : lastFits last ≡ false → finishAnswer s last out ≡ Refused BitsUnfit
-    unfolding finishAnswer
-    finish-unfit h = rw (ok, h)
-
-    module _ (fits : lastFits last ≡ true) {size : ℕ} (es : size ≡ digestBytes (s .m)) where
-      pub finish-short : length out < size → finishAnswer s last out ≡ Refused BufferShort
-      unfolding finishAnswer
-      finish-short h = rw (ok, fits, ← es, lt-ltb (length out) size h)
-
-      finish-in : size ≤ length out → finishAnswer s last out ≡ Accepted
-      unfolding finishAnswer
-      finish-in h = rw (ok, fits, ← es, le-ltb (length out) size h)
-
-      pub size-max : size ≤ 64
-      size-max = omega (arith, m-max (s .m) (sound s ok .allowed))
-
-      -- what close, spell, keep and copy_out ensure
-      pub finished : size ≤ length out → length (s .chain) ≡ 16 → {chain bytes digest after : List ℕ} {n : ℕ}
-          → (chain ≡ chainOver (s .family) (s .salt) (closing s last) (s .chain)) × (n ≡ length (closing s last))
-          → bytes ≡ bytesOf chain → digest ≡ kept (s .m) bytes → after ≡ take size digest ++ drop size out
-          → _≡_ {A = Finished} (record { report = report.Covers (s .covered) (last .count) (s .compressed + n); state = s }) (finishOf s last out)
-          × (after ≡ finishBuffer s last out)
-      unfolding finishOf finishBuffer stateDigest firstBits
-      finished h sixteen c b d a =
-          let whole = chainOver (s .family) (s .salt) (closing s last) (s .chain) in
-          let l : length (take (digestBytes (s .m)) (kept (s .m) (bytesOf whole))) ≡ digestBytes (s .m) =
-          unfold firstBits in first-length (s .m) (bytesOf whole) (omega (arith, size-max, bytes-length whole, chain-length (s .family) (s .salt) (closing s last) (s .chain) sixteen)) in
-          (rw (finish-in h, c .1), rw (finish-in h, l) (a ∙ rw (d, b, c .0, es)))
 
 -- one_shot
 module _ (m : ℕ) (salt xs : List ℕ) (last : LastBits) (out : List ℕ) where

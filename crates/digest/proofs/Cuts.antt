@@ -18,15 +18,16 @@ use Rattle.bits.specs.declared.LastBits.{LastBits}
 use Rattle.bits.specs.Message.{messageOf}
 use Rattle.state.specs.declared.State.{State}
 use Rattle.state.specs.Bytes.{fill, allZero}
-use Rattle.digest.specs.Blocks.{wholeBlocks, blocksOf, chainOver, digestOf}
+use Rattle.finishing.specs.Blocks.{wholeBlocks, blocksOf, chainOver, digestOf}
 use Rattle.state.specs.State.{limit, allowed, belongs, consistentOf}
-use Rattle.digest.specs.Running.{stateOf, heldOf, absorbed}
-use Rattle.digest.specs.Calls.{saltFits, closing, stateDigest}
+use Rattle.digest.specs.Running.{stateOf, absorbed}
+use Rattle.finishing.specs.Finish.{heldOf, closing, stateDigest}
+use Rattle.digest.specs.Calls.{saltFits}
 use Rattle.family.proofs.Sizes.{block-pos, block-max}
 use Rattle.state.proofs.Filling.{zero-list, fill-take, fill-length, zero-fill}
-use Rattle.digest.proofs.Blocking.{wholeBlocks-more, wholeBlocks-add, wholeBlocks-length, rest-length, rest-small, chainOver-append, chain-zero}
+use Rattle.finishing.proofs.Blocking.{wholeBlocks-more, wholeBlocks-add, wholeBlocks-length, rest-length, rest-small, chainOver-append, chain-zero}
 use Rattle.state.proofs.Soundness.{Sound, consistent-of}
-use Rattle.digest.proofs.Held.{held-length}
+use Rattle.finishing.proofs.Held.{held-length}
 use Rattle.digest.proofs.Tests.{salt-size}
 
 module _ (s : State) (whole : s .covered .0 ≡ s .compressed * blockBytes (s .family) + s .covered .0 % blockBytes (s .family)) (full : length (s .held) ≡ 128) (a : List ℕ) where

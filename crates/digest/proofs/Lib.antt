@@ -1,10 +1,5 @@
-pub mod Blocking
 pub mod Cuts
-pub mod Stores
 pub mod Tests
-pub mod Held
 pub mod Middle
-pub mod Endings
-pub mod Closing
 pub mod Shot
 pub mod Answers

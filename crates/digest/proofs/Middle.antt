@@ -15,14 +15,15 @@ use Rattle.compress.proofs.Compressed.{compress-block}
 use Rattle.counter.proofs.Counting.{counter-number}
 use Rattle.state.specs.declared.State.{State}
 use Rattle.state.specs.Bytes.{fill}
-use Rattle.digest.specs.Blocks.{wholeBlocks, chainOver}
+use Rattle.finishing.specs.Blocks.{wholeBlocks, chainOver}
 use Rattle.state.specs.State.{limit}
-use Rattle.digest.specs.Running.{heldOf, absorbed}
+use Rattle.finishing.specs.Finish.{heldOf}
+use Rattle.digest.specs.Running.{absorbed}
 use Rattle.family.proofs.Sizes.{block-pos, block-max}
 use Rattle.state.proofs.Filling.{fill-nil, fill-take}
-use Rattle.digest.proofs.Blocking.{wholeBlocks-more, wholeBlocks-last, chainOver-last}
+use Rattle.finishing.proofs.Blocking.{wholeBlocks-more, wholeBlocks-last, chainOver-last}
 use Rattle.state.proofs.Soundness.{Sound}
-use Rattle.digest.proofs.Held.{fill-puts, held-length, held-filled}
+use Rattle.finishing.proofs.Held.{fill-puts, held-length, held-filled}
 
 -- After the bytes xs went into the state s: n blocks are compressed and rest bytes held; the counter is the bits in whole blocks so far.
 pub record Mid (s : State) (xs chain : List ℕ) (compressed : ℕ) (held : List ℕ) (rest : ℕ) (counter : Counter) : Type 0 where

@@ -15,7 +15,8 @@ use Rattle.bits.specs.declared.LastBits.{LastBits}
 use Rattle.bits.specs.Message.{messageOf}
 use Rattle.state.specs.State.{limit, allowed, consistentOf}
 use Rattle.digest.specs.Running.{stateOf}
-use Rattle.digest.specs.Calls.{saltFits, beginAnswer, beginOf, finishAnswer, finishOf, finishBuffer, oneShotAnswer, oneShotOf, oneShotBuffer}
+use Rattle.digest.specs.Calls.{saltFits, beginAnswer, beginOf, oneShotAnswer, oneShotOf, oneShotBuffer}
+use Rattle.finishing.specs.Finish.{finishAnswer, finishOf, finishBuffer}
 use Rattle.digest.proofs.Cuts.{state-consistent, state-digest, state-count}
 
 -- What is known where a call of two tests is accepted.

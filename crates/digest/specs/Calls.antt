@@ -1,28 +1,26 @@
--- The four calls, as total functions of their inputs: each with its tests in document 01's order, its result, and what its lent buffer holds afterwards.
+-- Begin, add and one-shot, as total functions of their inputs: each with its tests in document 01's order, its result, and what its lent buffer holds
+-- afterwards. Finish, on which one-shot ends, stands in the crate below.
 use mathlib.Core.Bool.{Bool, not, _||_}
 use mathlib.Core.List.{List, [], _∷_}
-use Prim.Native.Nat.{ℕ, _+_, _*_}
+use Prim.Native.Nat.{ℕ, _+_}
 use lib.Dec.{eqb, ltb}
 use lib.ListN.{length}
 use Rattle.family.specs.declared.Family.{Family}
 use Rattle.family.specs.Family.{familyOf, saltBytes}
 use Rattle.answers.specs.declared.refusal.Refusal.the-variants.{DigestLength, SaltSize, MessageLimit, StateInconsistent, BufferShort, BitsUnfit}
 use Rattle.answers.specs.declared.refusal.Answer.{Answer}
-use Rattle.bits.specs.declared.LastBits.{LastBits}
-use Rattle.bits.specs.Bits.{lastFits, digestBytes, firstBits}
-use Rattle.bits.specs.Message.{Message, messageOf}
+use Rattle.bits.specs.Bits.{lastFits, digestBytes}
+use Rattle.bits.specs.Message.{Message}
 use Rattle.state.specs.declared.State.{State}
 use Rattle.digest.specs.declared.calls.Step.{Step}
-use Rattle.answers.specs.declared.report.Report.{Report}
-use Rattle.digest.specs.declared.calls.Finished.{Finished}
+use Rattle.reports.specs.declared.Report.{Report}
 use Rattle.answers.specs.Refusal.{judged, ifAccepted}
-use Rattle.answers.specs.Report.{reported}
+use Rattle.reports.specs.Report.{reported}
 use Rattle.answers.specs.Written.{written}
-use Rattle.fields.specs.Fields.{bytesOf}
 use Rattle.state.specs.Bytes.{fill}
-use Rattle.digest.specs.Blocks.{lastBlocks, blocksOf, chainOver, digestOf}
+use Rattle.finishing.specs.Blocks.{blocksOf, digestOf}
 use Rattle.state.specs.State.{limit, allowed, consistentOf, zeroState}
-use Rattle.digest.specs.Running.{stateOf, heldOf, absorbed}
+use Rattle.digest.specs.Running.{stateOf, absorbed}
 
 -- salt empty or of the family's size
 unfoldable pub saltFits : Family → List ℕ → Bool
@@ -41,29 +39,6 @@ addAnswer s xs = judged ((not (consistentOf s), StateInconsistent) ∷ (ltb limi
 
 unfoldable pub addOf : State → List ℕ → Step
 addOf s xs = record { answer = addAnswer s xs; state = ifAccepted (addAnswer s xs) (absorbed s xs) s }
-
--- what finishing a state with last bits compresses, and its digest
-unfoldable pub closing : State → LastBits → List (ℕ × List ℕ)
-closing s last = lastBlocks (s .family) (s .m) (8 * s .covered .0 + last .count) (messageOf (heldOf s) last)
-
-unfoldable pub stateDigest : State → LastBits → List ℕ
-stateDigest s last = firstBits (s .m) (bytesOf (chainOver (s .family) (s .salt) (closing s last) (s .chain)))
-
--- finish: 4, 11, 5. It hands back the state that it was given.
-unfoldable pub finishAnswer : State → LastBits → List ℕ → Answer
-finishAnswer s last out =
-    judged (
-    (not (consistentOf s), StateInconsistent) ∷ (not (lastFits last), BitsUnfit) ∷ (ltb (length out) (digestBytes (s .m)), BufferShort) ∷ []
-    )
-
-unfoldable pub finishOf : State → LastBits → List ℕ → Finished
-finishOf s last out = record {
-  report = reported (finishAnswer s last out) (s .covered .0) (last .count) (s .compressed + length (closing s last));
-  state = s;
-}
-
-unfoldable pub finishBuffer : State → LastBits → List ℕ → List ℕ
-finishBuffer s last out = written (finishAnswer s last out) (stateDigest s last) out
 
 -- one-shot: 1, 2, 3, 11, 5
 unfoldable pub oneShotAnswer : ℕ → List ℕ → Message → List ℕ → Answer

@@ -1,12 +1,13 @@
 -- The running digest (document 01, "The running state"): the state that bytes lead to.
 use mathlib.Core.List.{List, _++_}
-use Prim.Native.Nat.{ℕ, _+_, _*_, _/_, _%_}
-use lib.ListN.{length, take, drop}
+use Prim.Native.Nat.{ℕ, _+_, _*_, _/_}
+use lib.ListN.{length, drop}
 use Rattle.family.specs.Family.{familyOf, blockBytes}
 use Rattle.startup.specs.Startup.{startOf}
 use Rattle.state.specs.declared.State.{State}
 use Rattle.state.specs.Bytes.{fill}
-use Rattle.digest.specs.Blocks.{wholeBlocks, chainOver}
+use Rattle.finishing.specs.Blocks.{wholeBlocks, chainOver}
+use Rattle.finishing.specs.Finish.{heldOf}
 
 -- The state that digest length, salt and the bytes so far give: an empty salt stands for the all-zero salt.
 unfoldable pub stateOf : ℕ → List ℕ → List ℕ → State
@@ -22,10 +23,6 @@ stateOf m salt xs =
       compressed = n;
       held = fill 128 (drop (n * blockBytes f) xs);
     }
-
--- the bytes of a state that are in no whole block yet
-unfoldable pub heldOf : State → List ℕ
-heldOf s = take (s .covered .0 % blockBytes (s .family)) (s .held)
 
 -- The same rules carried on from a state's chain and held bytes.
 unfoldable pub absorbed : State → List ℕ → State

@@ -11,12 +11,12 @@ use Rattle.answers.specs.declared.refusal.Refusal.{Refusal}
 use Rattle.answers.specs.declared.refusal.Refusal.the-variants.{SaltSize, StateInconsistent, BufferShort, LogExtent, SectionCount, EventRegister}
 use Rattle.answers.specs.declared.refusal.Answer.{Answer}
 use Rattle.answers.specs.declared.refusal.Answer.the-variants as answer
-use Rattle.answers.specs.declared.reading.Layout.{Layout}
-use Rattle.answers.specs.declared.reading.Reading.{Reading}
-use Rattle.answers.specs.declared.reading.Reading.the-variants as reading
+use Rattle.log_answers.specs.declared.reading.Layout.{Layout}
+use Rattle.log_answers.specs.declared.reading.Reading.{Reading}
+use Rattle.log_answers.specs.declared.reading.Reading.the-variants as reading
 use Rattle.answers.specs.Refusal.{refusalNumber, answerNumber, judged}
-use Rattle.answers.specs.Report.{reportNumber, reported}
-use Rattle.answers.specs.Reading.{readingNumber}
+use Rattle.reports.specs.Report.{reportNumber, reported}
+use Rattle.log_answers.specs.Reading.{readingNumber}
 use Rattle.answers.specs.Written.{writtenNumber, writtenIf}
 use Rattle.family.specs.Family.{chainWords, saltBytes}
 use Rattle.saved_form.specs.Form.{saltWords, saltPlace, chainPlace, coveredPlace, heldPlace}

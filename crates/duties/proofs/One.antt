@@ -11,22 +11,23 @@ use Rattle.answers.specs.declared.refusal.Refusal.{Refusal}
 use Rattle.answers.specs.declared.refusal.Refusal.the-variants.{DigestLength, SaltSize, MessageLimit, StateInconsistent, BufferShort, BitsUnfit}
 use Rattle.answers.specs.declared.refusal.Answer.{Answer}
 use Rattle.answers.specs.declared.refusal.Answer.the-variants as answer
-use Rattle.answers.specs.declared.reading.Reading.{Reading}
-use Rattle.answers.specs.declared.reading.Reading.the-variants as reading
-use Rattle.answers.specs.declared.checked.Verdict.{Verdict}
-use Rattle.answers.specs.declared.checked.Verdict.the-variants.{NoClaim}
-use Rattle.answers.specs.declared.checked.Checked.{Checked}
-use Rattle.answers.specs.declared.checked.Checked.the-variants as checked
+use Rattle.log_answers.specs.declared.reading.Reading.{Reading}
+use Rattle.log_answers.specs.declared.reading.Reading.the-variants as reading
+use Rattle.log_answers.specs.declared.checked.Verdict.{Verdict}
+use Rattle.log_answers.specs.declared.checked.Verdict.the-variants.{NoClaim}
+use Rattle.log_answers.specs.declared.checked.Checked.{Checked}
+use Rattle.log_answers.specs.declared.checked.Checked.the-variants as checked
 use Rattle.answers.specs.declared.written.Written.the-variants as written
 use Rattle.answers.specs.Refusal.{refusalNumber, answerNumber, ifAccepted}
-use Rattle.answers.specs.Report.{reportNumber, reported}
-use Rattle.answers.specs.Reading.{readingNumber, readingRegisters, readingEvents}
-use Rattle.answers.specs.Checked.{checkNumber, checkRegisters, checkEvents, checkBlocks, checkVerdict}
+use Rattle.reports.specs.Report.{reportNumber, reported}
+use Rattle.log_answers.specs.Reading.{readingNumber, readingRegisters, readingEvents}
+use Rattle.log_answers.specs.Checked.{checkNumber, checkRegisters, checkEvents, checkBlocks, checkVerdict}
 use Rattle.answers.specs.Written.{writtenNumber, writtenLength, writtenIf}
 use Rattle.family.specs.Family.{familyOf}
 use Rattle.bits.specs.Bits.{lastFits, digestBytes}
 use Rattle.state.specs.State.{limit, allowed, consistentOf}
-use Rattle.digest.specs.Calls.{saltFits, beginAnswer, beginOf, addAnswer, addOf, finishAnswer, finishOf, finishBuffer, oneShotAnswer, oneShotOf, oneShotBuffer}
+use Rattle.digest.specs.Calls.{saltFits, beginAnswer, beginOf, addAnswer, addOf, oneShotAnswer, oneShotOf, oneShotBuffer}
+use Rattle.finishing.specs.Finish.{finishAnswer, finishOf, finishBuffer}
 use Rattle.saved_form.specs.Form.{formOf}
 use Rattle.loading.specs.Reading.{stateIn}
 use Rattle.saving.specs.Calls.{saveAnswer, saveOf, saveBuffer}

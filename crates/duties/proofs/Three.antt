@@ -6,18 +6,19 @@ use Prim.Native.Nat.{ℕ, _≤_}
 use lib.ListN.{length, drop, length-map}
 use Rattle.family.specs.Family.{familyOf}
 use Rattle.answers.specs.declared.refusal.Answer.the-variants.{Accepted}
-use Rattle.answers.specs.Report.{reportNumber, reportCovered, reportBits, reportBlocks}
+use Rattle.reports.specs.Report.{reportNumber, reportCovered, reportBits, reportBlocks}
 use Rattle.bits.specs.declared.LastBits.{LastBits}
 use Rattle.bits.specs.Bits.{lastFits, digestBytes}
 use Rattle.bits.specs.Message.{Message, messageOf, bitLength}
 use Rattle.bits.proofs.Fitting.{at-most-7}
 use Rattle.state.specs.declared.State.{State}
 use Rattle.state.specs.Bytes.{fill}
-use Rattle.digest.specs.Blocks.{digestOf}
+use Rattle.finishing.specs.Blocks.{digestOf}
 use Rattle.state.specs.State.{bitLimit, allowed}
 use Rattle.state.proofs.Limits.{bits-within}
 use Rattle.digest.specs.Running.{stateOf}
-use Rattle.digest.specs.Calls.{beginAnswer, beginOf, finishOf, finishBuffer, oneShotOf, oneShotBuffer}
+use Rattle.digest.specs.Calls.{beginAnswer, beginOf, oneShotOf, oneShotBuffer}
+use Rattle.finishing.specs.Finish.{finishOf, finishBuffer}
 use Rattle.digest.proofs.Shot.{begin-accepted}
 use Rattle.carried.specs.Moves.{Move, afterMoves, joinedBy}
 use Rattle.carried.proofs.Carries.{moves-joined, moves-length, moves-finish}

@@ -7,18 +7,18 @@ use lib.ListN.{length, drop}
 use borrow.Author.Tests.{le-ltb}
 use Rattle.family.specs.Family.{familyOf}
 use Rattle.answers.specs.declared.refusal.Answer.the-variants.{Accepted}
-use Rattle.answers.specs.declared.reading.Layout.{Layout}
-use Rattle.answers.specs.declared.reading.Reading.the-variants.{Whole}
-use Rattle.answers.specs.Report.{reportNumber, reportCovered, reportBits, reportBlocks}
-use Rattle.answers.specs.Checked.{checkNumber}
+use Rattle.log_answers.specs.declared.reading.Layout.{Layout}
+use Rattle.log_answers.specs.declared.reading.Reading.the-variants.{Whole}
+use Rattle.reports.specs.Report.{reportNumber, reportCovered, reportBits, reportBlocks}
+use Rattle.log_answers.specs.Checked.{checkNumber}
 use Rattle.bits.specs.Bits.{lastFits, digestBytes}
 use Rattle.bits.specs.Message.{Message, bitLength}
 use Rattle.state.specs.Bytes.{fill}
-use Rattle.digest.specs.Blocks.{blocksOf, digestOf}
+use Rattle.finishing.specs.Blocks.{blocksOf, digestOf}
 use Rattle.state.specs.State.{bitLimit, limit, allowed}
 use Rattle.state.proofs.Limits.{within-bits}
 use Rattle.digest.specs.Calls.{saltFits, oneShotAnswer, oneShotOf, oneShotBuffer}
-use Rattle.digest.proofs.Answers.{m-max, digest-length}
+use Rattle.finishing.proofs.Answers.{m-max, digest-length}
 use Rattle.layout.specs.Layout.{readingOf, saltOf, startsOf, eventsOf}
 use Rattle.records.specs.Events.{eventList}
 use Rattle.records.specs.Records.{recordsOf}

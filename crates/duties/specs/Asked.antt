@@ -4,18 +4,19 @@ use mathlib.Core.Bool.{Bool}
 use mathlib.Core.List.{List, [], _∷_}
 use Prim.Native.Nat.{ℕ}
 use lib.ListN.{length}
-use Rattle.answers.specs.declared.checked.Verdict.the-variants.{NoClaim}
-use Rattle.answers.specs.declared.report.Report.{Report}
+use Rattle.log_answers.specs.declared.checked.Verdict.the-variants.{NoClaim}
+use Rattle.reports.specs.declared.Report.{Report}
 use Rattle.answers.specs.Refusal.{answerNumber}
-use Rattle.answers.specs.Report.{reportNumber, reportCovered, reportBits, reportBlocks}
-use Rattle.answers.specs.Reading.{readingNumber, readingRegisters, readingEvents}
-use Rattle.answers.specs.Checked.{checkNumber, checkRegisters, checkEvents, checkBlocks, checkVerdict}
+use Rattle.reports.specs.Report.{reportNumber, reportCovered, reportBits, reportBlocks}
+use Rattle.log_answers.specs.Reading.{readingNumber, readingRegisters, readingEvents}
+use Rattle.log_answers.specs.Checked.{checkNumber, checkRegisters, checkEvents, checkBlocks, checkVerdict}
 use Rattle.answers.specs.Written.{writtenNumber, writtenLength}
 use Rattle.bits.specs.declared.LastBits.{LastBits}
 use Rattle.bits.specs.Message.{Message}
 use Rattle.state.specs.declared.State.{State}
 use Rattle.state.specs.State.{zeroState}
-use Rattle.digest.specs.Calls.{beginOf, addOf, finishOf, finishBuffer, oneShotOf, oneShotBuffer}
+use Rattle.digest.specs.Calls.{beginOf, addOf, oneShotOf, oneShotBuffer}
+use Rattle.finishing.specs.Finish.{finishOf, finishBuffer}
 use Rattle.saving.specs.Calls.{saveOf, saveBuffer}
 use Rattle.loading.specs.Calls.{loadOf}
 use Rattle.layout.specs.Layout.{readingOf}

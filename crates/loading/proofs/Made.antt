@@ -13,7 +13,7 @@ use Rattle.state.specs.Bytes.{fill}
 use Rattle.saved_form.specs.Form.{chainPlace, heldPlace}
 use Rattle.loading.specs.Reading.{familyIn, coveredIn, restIn, wordsIn, stateIn}
 use Rattle.family.proofs.Sizes.{salt-max}
-use Rattle.digest.proofs.Held.{put-filled}
+use Rattle.finishing.proofs.Held.{put-filled}
 use Rattle.loading.proofs.Bounds.{rest-max}
 
 -- a part put into zeros

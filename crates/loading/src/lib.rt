@@ -11,10 +11,10 @@ ghost use Rattle.saved_form.specs.Form.{saltWords, saltPlace, chainPlace};
 ghost use Rattle.loading.specs.Reading.{familyIn, coveredIn, restIn, wordsIn, sectionTests, familyTests, endTests, formTests, stateIn};
 ghost use Rattle.loading.specs.Calls.{loadOf};
 use answers::Answer;
-use answers::Length;
 use answers::Refusal;
 use digest::Step;
 use family::Family;
+use reports::Length;
 use state::State;
 
 // The section whose count stands at `at`: the count that it must have, and the bytes behind it. The bounds, here and below, only keep sums from wrapping.

@@ -8,10 +8,10 @@ use native.Mathlib.Decide.{decLt}
 use lib.Dec.{ltb}
 use lib.ListN.{length}
 use borrow.Author.Tests.{ltb-false}
-use Rattle.answers.specs.declared.reading.Layout.{Layout}
-use Rattle.answers.specs.declared.reading.Reading.{Reading}
-use Rattle.answers.specs.declared.reading.Reading.the-variants as reading
-use Rattle.answers.specs.Checked.{checkRegisters, checkEvents}
+use Rattle.log_answers.specs.declared.reading.Layout.{Layout}
+use Rattle.log_answers.specs.declared.reading.Reading.{Reading}
+use Rattle.log_answers.specs.declared.reading.Reading.the-variants as reading
+use Rattle.log_answers.specs.Checked.{checkRegisters, checkEvents}
 use Rattle.layout.specs.Layout.{readingOf, eventsOf}
 use Rattle.records.specs.Events.{Event, eventList, digestsFor, extensions}
 use Rattle.records.specs.Records.{extensionsAt}

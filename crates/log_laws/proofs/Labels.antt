@@ -9,9 +9,9 @@ use lib.ListN.{length, take, drop, getD, set, length-set, length-take, length-dr
 use lib.Seq.{getD-take, getD-drop, getD-set-other, ext-getD}
 use Rattle.layout.specs.declared.Place.{Place}
 use Rattle.layout.specs.declared.Place.the-variants.{At, Refused}
-use Rattle.answers.specs.declared.reading.Layout.{Layout}
-use Rattle.answers.specs.declared.reading.Reading.{Reading}
-use Rattle.answers.specs.declared.reading.Reading.the-variants as reading
+use Rattle.log_answers.specs.declared.reading.Layout.{Layout}
+use Rattle.log_answers.specs.declared.reading.Reading.{Reading}
+use Rattle.log_answers.specs.declared.reading.Reading.the-variants as reading
 use Rattle.fields.specs.Fields.{numberIn, numberAt}
 use Rattle.layout.specs.Layout.{andThen, reads, sectionEnd, saltEnd, registersEnd, eventsEnd, eventSectionEnd, claimsEnd, readingOf}
 use Rattle.layout.specs.Layout.{saltOf, startsOf, eventsOf, claimsOf}

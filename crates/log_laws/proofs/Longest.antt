@@ -6,10 +6,10 @@ use Prim.Native.Nat.{ℕ, _*_, _≤_}
 use native.Mathlib.Omega.{arith}
 use lib.ListN.{length}
 use borrow.Author.Tests.{le-ltb}
-use Rattle.answers.specs.declared.reading.Layout.{Layout}
-use Rattle.answers.specs.declared.reading.Reading.the-variants.{Whole}
+use Rattle.log_answers.specs.declared.reading.Layout.{Layout}
+use Rattle.log_answers.specs.declared.reading.Reading.the-variants.{Whole}
 use Rattle.layout.specs.Layout.{readingOf}
-use Rattle.answers.specs.Checked.{checkNumber}
+use Rattle.log_answers.specs.Checked.{checkNumber}
 use Rattle.bootlog.specs.Check.{checkedAt, checkOf}
 use Rattle.layout.proofs.Sizes.{counts}
 use Rattle.bootlog.proofs.Verdicts.{check-answer}

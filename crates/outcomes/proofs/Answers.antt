@@ -5,13 +5,13 @@ use Rattle.outcome.specs.Outcome.{OneOutcome}
 use Rattle.outcome.proofs.Outcome.{one}
 use Rattle.answers.specs.declared.refusal.Answer.{Answer}
 use Rattle.answers.specs.declared.refusal.Refusal.{Refusal}
-use Rattle.answers.specs.declared.report.Report.{Report}
-use Rattle.answers.specs.declared.reading.Reading.{Reading}
-use Rattle.answers.specs.declared.checked.Verdict.{Verdict}
-use Rattle.answers.specs.declared.checked.Checked.{Checked}
+use Rattle.reports.specs.declared.Report.{Report}
+use Rattle.log_answers.specs.declared.reading.Reading.{Reading}
+use Rattle.log_answers.specs.declared.checked.Verdict.{Verdict}
+use Rattle.log_answers.specs.declared.checked.Checked.{Checked}
 use Rattle.answers.specs.declared.written.Written.{Written}
 use Rattle.answers.specs.Refusal.{refusalNumber, answerNumber, firstOf}
-use Rattle.answers.specs.Checked.{checkVerdict}
+use Rattle.log_answers.specs.Checked.{checkVerdict}
 
 -- `Refusal::number`
 pub refusal-one : (r : Refusal) → OneOutcome (λ (n : ℕ). n ≡ refusalNumber r)

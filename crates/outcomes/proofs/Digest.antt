@@ -9,10 +9,11 @@ use Rattle.bits.specs.declared.LastBits.{LastBits}
 use Rattle.bits.specs.Message.{Message}
 use Rattle.state.specs.declared.State.{State}
 use Rattle.digest.specs.declared.calls.Step.{Step}
-use Rattle.answers.specs.declared.report.Report.{Report}
-use Rattle.digest.specs.declared.calls.Finished.{Finished}
+use Rattle.reports.specs.declared.Report.{Report}
+use Rattle.finishing.specs.declared.Finished.{Finished}
 use Rattle.state.specs.State.{allowed, consistentOf, zeroState}
-use Rattle.digest.specs.Calls.{beginOf, addOf, finishOf, finishBuffer, oneShotOf, oneShotBuffer}
+use Rattle.digest.specs.Calls.{beginOf, addOf, oneShotOf, oneShotBuffer}
+use Rattle.finishing.specs.Finish.{finishOf, finishBuffer}
 
 pub begin-one : (m : ℕ) (salt : List ℕ) → OneOutcome (λ (r : Step). r ≡ beginOf m salt)
 begin-one m salt = one (beginOf m salt)

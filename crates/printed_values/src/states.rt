@@ -1,12 +1,12 @@
 // How a digest starts and ends: by the rule, and as the appendix was made.
 ghost use Prim.Native.Nat.{_≤_};
 use crate::messages::Message;
-use answers::Length;
 use bits::LastBits;
 use counter::Counter;
 use family::Family;
 use family::LargeFamily;
 use family::SmallFamily;
+use reports::Length;
 use state::State;
 
 // A digest's words: the lengths that the appendix has are whole words.

@@ -7,17 +7,17 @@ use native.Mathlib.Omega.{arith}
 use lib.Dec.{eqb}
 use lib.ListN.{length, replicate}
 use borrow.Author.Tests.{lt-ltb, le-ltb, lt-leb}
-use Rattle.answers.specs.declared.reading.Layout.{Layout}
-use Rattle.answers.specs.declared.reading.Reading.{Reading}
-use Rattle.answers.specs.declared.reading.Reading.the-variants as reading
-use Rattle.answers.specs.declared.checked.Verdict.the-variants.{NoClaim, Differs}
-use Rattle.answers.specs.declared.checked.Checked.{Checked}
-use Rattle.answers.specs.declared.checked.Checked.the-variants as checked
+use Rattle.log_answers.specs.declared.reading.Layout.{Layout}
+use Rattle.log_answers.specs.declared.reading.Reading.{Reading}
+use Rattle.log_answers.specs.declared.reading.Reading.the-variants as reading
+use Rattle.log_answers.specs.declared.checked.Verdict.the-variants.{NoClaim, Differs}
+use Rattle.log_answers.specs.declared.checked.Checked.{Checked}
+use Rattle.log_answers.specs.declared.checked.Checked.the-variants as checked
 use Rattle.layout.specs.Layout.{readingOf, claimsOf}
 use Rattle.records.specs.Records.{registerAt, extensionsAt}
 use Rattle.fields.specs.Fields.{same}
 use Rattle.bootlog.specs.Check.{endsOf, compared, verdictOf, checkedAt, checkOf, checkBuffer}
-use Rattle.answers.specs.Checked.{checkRegisters}
+use Rattle.log_answers.specs.Checked.{checkRegisters}
 use Rattle.answers.specs.declared.refusal.Refusal.the-variants.{BufferShort}
 use Rattle.answers.specs.declared.written.Written.the-variants.{Bytes, Refused}
 use Rattle.text.specs.Place.{placed}

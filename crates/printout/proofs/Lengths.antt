@@ -8,11 +8,11 @@ use lib.ListN.{length, drop, length-append, length-take}
 use borrow.Author.Tests.{eq-eqb}
 use Rattle.answers.proofs.Numbers.{refusal-small}
 use Rattle.answers.specs.Refusal.{refusalNumber}
-use Rattle.answers.specs.declared.checked.Verdict.{Verdict}
-use Rattle.answers.specs.declared.checked.Verdict.the-variants.{NoClaim, Agrees, Differs}
-use Rattle.answers.specs.declared.checked.Checked.{Checked}
-use Rattle.answers.specs.declared.checked.Checked.the-variants.{Accepted, Refused}
-use Rattle.answers.specs.Checked.{checkRegisters}
+use Rattle.log_answers.specs.declared.checked.Verdict.{Verdict}
+use Rattle.log_answers.specs.declared.checked.Verdict.the-variants.{NoClaim, Agrees, Differs}
+use Rattle.log_answers.specs.declared.checked.Checked.{Checked}
+use Rattle.log_answers.specs.declared.checked.Checked.the-variants.{Accepted, Refused}
+use Rattle.log_answers.specs.Checked.{checkRegisters}
 use Rattle.records.specs.Records.{joined, valueAt, extensionsAt}
 use Rattle.text.specs.Digits.{decimalIn, decimalOf, hexOf}
 use Rattle.text.proofs.Storing.{hex-length}

@@ -8,10 +8,10 @@ use Rattle.answers.specs.declared.refusal.Refusal.the-variants.{BufferShort}
 use Rattle.answers.specs.declared.written.Written.{Written}
 use Rattle.answers.specs.declared.written.Written.the-variants as written
 use Rattle.answers.specs.Refusal.{refusalNumber}
-use Rattle.answers.specs.declared.checked.Verdict.{Verdict}
-use Rattle.answers.specs.declared.checked.Verdict.the-variants.{NoClaim, Agrees, Differs}
-use Rattle.answers.specs.declared.checked.Checked.{Checked}
-use Rattle.answers.specs.declared.checked.Checked.the-variants.{Accepted, Refused}
+use Rattle.log_answers.specs.declared.checked.Verdict.{Verdict}
+use Rattle.log_answers.specs.declared.checked.Verdict.the-variants.{NoClaim, Agrees, Differs}
+use Rattle.log_answers.specs.declared.checked.Checked.{Checked}
+use Rattle.log_answers.specs.declared.checked.Checked.the-variants.{Accepted, Refused}
 use Rattle.records.specs.Records.{joined, valueAt, extensionsAt}
 use Rattle.bootlog.specs.Check.{checkOf, checkBuffer}
 use Rattle.text.specs.Digits.{decimalOf, hexOf}

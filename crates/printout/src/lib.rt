@@ -5,10 +5,10 @@ ghost use Rattle.text.specs.Digits.{decimalOf, hexOf};
 ghost use Rattle.text.specs.Place.{placed};
 ghost use Rattle.printout.specs.Printout.{verdictText, registerLine, registerLines, spaced, textOf, printoutOf, printOf};
 ghost use Rattle.printout.specs.Wrote.{Room, Wrote};
-use answers::Checked;
 use answers::Refusal;
-use answers::Verdict;
 use answers::Written;
+use log_answers::Checked;
+use log_answers::Verdict;
 
 // A buffer of so many bytes is never too short for a check's text.
 pub const ROOM: usize = 2048;

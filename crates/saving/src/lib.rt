@@ -7,10 +7,10 @@ ghost use Rattle.family.specs.Family.{blockBytes};
 ghost use Rattle.saved_form.specs.Sized.{Sized};
 ghost use Rattle.saved_form.specs.Form.{parameterSection, saltSection, chainSection, coveredSection, heldSection, formOf, saltPlace, chainPlace, coveredPlace, heldPlace};
 ghost use Rattle.saving.specs.Calls.{saveOf, saveBuffer};
-use answers::Length;
 use answers::Refusal;
 use answers::Written;
 use family::Family;
+use reports::Length;
 use state::State;
 
 // How many bytes were written, or a refusal; and the state handed back.

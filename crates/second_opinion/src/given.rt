@@ -7,8 +7,8 @@ use crate::parse::Kind;
 use crate::parse::Number;
 use crate::show;
 use crate::words;
-use answers::Length;
 use family::Family;
+use reports::Length;
 use state::State;
 
 // The numbers of a state.

@@ -1,8 +1,8 @@
 // Writing words to a line: each is put behind a space, and the answer is the place behind it.
-use answers::Checked;
-use answers::Report;
-use answers::Verdict;
 use answers::Written;
+use log_answers::Checked;
+use log_answers::Verdict;
+use reports::Report;
 use state::State;
 
 // The whole line, where the one read is not as the format has it.

@@ -17,7 +17,8 @@ use Rattle.state.specs.declared.State.{State}
 use Rattle.answers.specs.Refusal.{ifAccepted}
 use Rattle.state.specs.State.{limit, allowed, consistentOf, zeroState}
 use Rattle.digest.specs.Running.{stateOf, absorbed}
-use Rattle.digest.specs.Calls.{beginAnswer, beginOf, addAnswer, addOf, finishOf, finishBuffer, oneShotOf, oneShotBuffer}
+use Rattle.digest.specs.Calls.{beginAnswer, beginOf, addAnswer, addOf, oneShotOf, oneShotBuffer}
+use Rattle.finishing.specs.Finish.{finishOf, finishBuffer}
 use Rattle.sequences.specs.Sequences.{Call, add, finish, afterCall, after, taken, joined}
 use Rattle.state.proofs.Soundness.{sound, consistent-of}
 use Rattle.digest.proofs.Cuts.{absorbed-append, still-sound, state-absorbed}

@@ -4,7 +4,8 @@ use Prim.Native.Nat.{ℕ}
 use Rattle.bits.specs.declared.LastBits.{LastBits}
 use Rattle.state.specs.declared.State.{State}
 use Rattle.answers.specs.Refusal.{ifAccepted}
-use Rattle.digest.specs.Calls.{addAnswer, addOf, finishOf}
+use Rattle.digest.specs.Calls.{addAnswer, addOf}
+use Rattle.finishing.specs.Finish.{finishOf}
 
 -- add these bytes, or finish with last bits into a buffer that holds these bytes
 pub data Call : Type 0 where

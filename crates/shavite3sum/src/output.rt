@@ -1,7 +1,7 @@
 // What the program writes.
-use answers::Report;
 use libc::STDERR_FILENO;
 use libc::STDOUT_FILENO;
+use reports::Report;
 
 pub(crate) fn complain(message: &[u8]) {
     io::write_all(STDERR_FILENO, b"shavite3sum: ");

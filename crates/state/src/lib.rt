@@ -4,10 +4,10 @@ ghost use Prim.Native.Nat.{_^_, _<_};
 ghost use lib.ListN.{drop};
 ghost use Rattle.state.specs.Bytes.{sumOf, allZero};
 ghost use Rattle.state.specs.State.{allowed, belongs, zeroPast, consistentOf, zeroState};
-use answers::Length;
 use family::Family;
 use family::LargeFamily;
 use family::SmallFamily;
+use reports::Length;
 
 pub struct State {
     pub family: Family,

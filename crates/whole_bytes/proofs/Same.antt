@@ -12,15 +12,16 @@ use borrow.Author.Tests.{le-leb, lt-leb, eq-eqb, ne-eqb}
 use Rattle.family.specs.declared.Family.{Family}
 use Rattle.family.specs.declared.Family.the-variants.{Small, Large}
 use Rattle.family.specs.Family.{familyOf, padLimit, lengthPlace}
-use Rattle.answers.specs.Report.{reported}
+use Rattle.reports.specs.Report.{reported}
 use Rattle.bits.specs.Bits.{noBits, marked, digestBytes}
 use Rattle.bits.specs.Message.{whole}
 use Rattle.bits.proofs.Fitting.{none-fits, none-count}
 use Rattle.bits.proofs.Firsts.{first-whole}
 use Rattle.state.specs.declared.State.{State}
 use Rattle.state.specs.State.{allowed, consistentOf}
-use Rattle.digest.specs.Blocks.{lastBlock, lastBlocks, blocksOf, digestOf}
-use Rattle.digest.specs.Calls.{beginAnswer, beginOf, addAnswer, addOf, closing, stateDigest, finishAnswer, finishOf, finishBuffer, oneShotAnswer, oneShotOf, oneShotBuffer}
+use Rattle.finishing.specs.Blocks.{lastBlock, lastBlocks, blocksOf, digestOf}
+use Rattle.digest.specs.Calls.{beginAnswer, beginOf, addAnswer, addOf, oneShotAnswer, oneShotOf, oneShotBuffer}
+use Rattle.finishing.specs.Finish.{closing, stateDigest, finishAnswer, finishOf, finishBuffer}
 use Rattle.whole_bytes.specs.Before.{byteLimit, byteAllowed, byteConsistent, byteLastBlock, byteLastBlocks, byteBlocks, byteDigest, byteBeginAnswer, byteBegun, byteAddAnswer, byteAdded, byteClosing, byteStateDigest, byteFinishAnswer, byteFinishBuffer, byteOneShotAnswer, byteOneShotBuffer}
 
 -- 431 is 8 * 53 + 7 and 879 is 8 * 109 + 7, so whatever the last bits, a rest ends in one block where its whole bytes did.

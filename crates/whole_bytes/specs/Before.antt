@@ -16,8 +16,9 @@ use Rattle.startup.specs.Startup.{startOf}
 use Rattle.state.specs.declared.State.{State}
 use Rattle.state.specs.Bytes.{fill}
 use Rattle.state.specs.State.{belongs, zeroPast, zeroState}
-use Rattle.digest.specs.Blocks.{wholeBlocks, chainOver}
-use Rattle.digest.specs.Running.{stateOf, heldOf, absorbed}
+use Rattle.finishing.specs.Blocks.{wholeBlocks, chainOver}
+use Rattle.digest.specs.Running.{stateOf, absorbed}
+use Rattle.finishing.specs.Finish.{heldOf}
 use Rattle.digest.specs.Calls.{saltFits}
 
 -- "largest remainder padded in one block": 53 and 109 bytes

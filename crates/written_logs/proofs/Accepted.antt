@@ -8,10 +8,10 @@ use native.Mathlib.Omega.{arith}
 use lib.ListN.{length, take, drop}
 use borrow.Author.Tests.{le-ltb}
 use Rattle.answers.specs.declared.refusal.Answer.the-variants as answer
-use Rattle.answers.specs.declared.reading.Layout.{Layout}
-use Rattle.answers.specs.declared.reading.Reading.the-variants.{Whole}
-use Rattle.answers.specs.declared.checked.Verdict.the-variants.{NoClaim, Agrees}
-use Rattle.answers.specs.declared.checked.Checked.the-variants.{Accepted}
+use Rattle.log_answers.specs.declared.reading.Layout.{Layout}
+use Rattle.log_answers.specs.declared.reading.Reading.the-variants.{Whole}
+use Rattle.log_answers.specs.declared.checked.Verdict.the-variants.{NoClaim, Agrees}
+use Rattle.log_answers.specs.declared.checked.Checked.the-variants.{Accepted}
 use Rattle.layout.specs.Layout.{readingOf}
 use Rattle.layout.proofs.Sizes.{counts}
 use Rattle.records.specs.Events.{eventRun}

@@ -9,9 +9,9 @@ use lib.Dec.{eqb}
 use lib.ListN.{length}
 use borrow.Author.Tests.{eq-eqb, ne-eqb, le-leb, lt-leb}
 use Rattle.answers.specs.declared.refusal.Answer.the-variants as answer
-use Rattle.answers.specs.declared.reading.Layout.{Layout}
-use Rattle.answers.specs.declared.reading.Reading.the-variants.{Whole}
-use Rattle.answers.specs.declared.checked.Verdict.the-variants.{NoClaim, Agrees}
+use Rattle.log_answers.specs.declared.reading.Layout.{Layout}
+use Rattle.log_answers.specs.declared.reading.Reading.the-variants.{Whole}
+use Rattle.log_answers.specs.declared.checked.Verdict.the-variants.{NoClaim, Agrees}
 use Rattle.layout.specs.Layout.{readingOf, saltOf, startsOf, eventsOf, claimsOf}
 use Rattle.records.specs.Events.{Event, eventList}
 use Rattle.bootlog.specs.Check.{endsOf, verdictOf}

@@ -13,8 +13,8 @@ use Rattle.answers.specs.declared.refusal.Answer.{Answer}
 use Rattle.answers.specs.declared.refusal.Answer.the-variants.{Accepted, Refused}
 use Rattle.answers.specs.declared.written.Written.the-variants.{Bytes}
 use Rattle.answers.specs.Refusal.{judged, firstOf}
-use Rattle.answers.specs.declared.reading.Layout.{Layout}
-use Rattle.answers.specs.declared.reading.Reading.the-variants.{Whole}
+use Rattle.log_answers.specs.declared.reading.Layout.{Layout}
+use Rattle.log_answers.specs.declared.reading.Reading.the-variants.{Whole}
 use Rattle.layout.specs.Layout.{readingOf, saltOf, startsOf, eventsOf, claimsOf}
 use Rattle.layout.proofs.Spelled.{Fitting, layoutFor, spelled-length, spelled-read, spelled-salt, spelled-starts, spelled-events, spelled-claims}
 use Rattle.log_laws.proofs.Longest.{accepted-size}

@@ -6,8 +6,8 @@ use Prim.Native.Nat.{ℕ, zero, suc, _+_, _*_, _≤_}
 use native.Mathlib.Omega.{arith}
 use lib.ListN.{length, drop, drop-of-length-le}
 use borrow.Author.Tests.{ne-eqb}
-use Rattle.answers.specs.declared.reading.Layout.{Layout}
-use Rattle.answers.specs.declared.checked.Verdict.the-variants.{NoClaim, Agrees, Differs}
+use Rattle.log_answers.specs.declared.reading.Layout.{Layout}
+use Rattle.log_answers.specs.declared.checked.Verdict.the-variants.{NoClaim, Agrees, Differs}
 use Rattle.fields.specs.Fields.{same}
 use Rattle.layout.specs.Layout.{claimsOf}
 use Rattle.fields.proofs.Parts.{part-join}

@@ -4,7 +4,7 @@ use mathlib.Core.List.{List, _++_}
 use Prim.Native.Nat.{ℕ}
 use borrow.Author.Needs.{needs}
 use Rattle.answers.specs.Refusal.{refusalNumber}
-use Rattle.answers.specs.declared.checked.Checked.{Checked}
+use Rattle.log_answers.specs.declared.checked.Checked.{Checked}
 use Rattle.text.specs.Digits.{decimalOf}
 use Rattle.printout.specs.Printout.{feed, acceptedWord, refusedWord, verdictText, registerLines, spaced, textOf}
 use Rattle.printout.specs.Wrote.{Room, Wrote}

@@ -1,6 +1,6 @@
 -- The salt is put into zeros.
 use borrow.Author.Needs.{needs}
-use Rattle.digest.proofs.Held.{put-filled}
+use Rattle.finishing.proofs.Held.{put-filled}
 use Rattle.digest.proofs.bytes.fill_salt.Statement.{statement}
 use Rattle.digest.proofs.bytes.fill_salt.Tie as tie
 

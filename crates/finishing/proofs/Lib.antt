@@ -1,0 +1,6 @@
+pub mod Blocking
+pub mod Stores
+pub mod Held
+pub mod Endings
+pub mod Closing
+pub mod Answers

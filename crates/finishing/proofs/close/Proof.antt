@@ -1,0 +1,82 @@
+-- One block where the length fits behind the 1 bit, else two: each is compressed as the rule has it.
+use Prim.Native.Nat.{_%_, _≤_, _<_}
+use mathlib.Core.Path.{_≡_, sym, _∙_}
+use native.Mathlib.Omega.{arith}
+use native.Mathlib.Nat.{mod-lt}
+use lib.ListN.{length, length-map}
+use borrow.Author.Needs.{needs}
+use Rattle.family.proofs.Sizes.{block-pos, block-max}
+use Rattle.bits.proofs.Fitting.{at-most-7}
+use Rattle.state.specs.State.{limit}
+use Rattle.state.proofs.Soundness.{Sound, sound}
+use Rattle.finishing.proofs.Closing.{close-one, close-two}
+use Rattle.finishing.proofs.close.Statement.{statement}
+use Rattle.finishing.proofs.close.Tie as tie
+
+-- the length that the type tells
+full : (c : tie.Start) → length (c .args .state .held) ≡ 128
+full c = sym (length-map (c .args .state .held) (λ v. v)) ∙ c .good .0 .1 .1 .1 .1 .1 .1 .1 .1 .0 .1 .0 .1
+
+ok : (c : tie.Start) → Sound (c .args .state)
+ok c = sound _ (c .pre .0)
+
+-- what the message's bits need to be a number of 64 bits
+few : (c : tie.Start) → (c .args .state .covered .0 ≤ limit) × (c .args .last .count ≤ 7)
+few c = (ok c .within, at-most-7 (c .args .last) (c .pre .1))
+
+abbrev start : tie.After-block-bytes → tie.Start
+start c = c .before .before .before .before .before
+
+positive : (c : tie.After-block-bytes) → 0 < c .block-bytes .result
+positive c = omega (arith, c .block-bytes .ensures, block-pos (start c .args .state .family))
+
+-- the rest is below the block size
+below : (c : tie.After-block-bytes) → start c .args .state .covered .0 % c .block-bytes .result < 128
+below c =
+    let s = start c .args .state in
+    omega (arith, c .block-bytes .ensures, block-max (s .family), mod-lt (s .covered .0) (positive c))
+
+abbrev sizing : tie.After-ends-in-one → tie.After-block-bytes
+sizing c = c .before .before .before .before .before
+
+returns : tie.Need-returns
+returns c =
+    let p = c .before .before .before .before .before in
+    let z = sizing p in
+    let a = start z in
+    close-one (a .args .state) (a .args .last) (ok a) (full a) (z .block-bytes .ensures) (z .before .bits-of .ensures) (p .before .before .before .bits-of2 .ensures)
+    (p .before .ended .ensures) (p .ends-in-one .ensures) (c .before .before .before .before .if1 .taken)
+    (c .before .before .before .with-length .ensures) (c .before .before .last-counter .ensures) (c .before .of .ensures) (c .compress .ensures)
+
+returns-2 : tie.Need-returns-2
+returns-2 c =
+    let e = c .before .before .before .before .before in
+    let p = e .before in
+    let z = sizing p in
+    let a = start z in
+    close-two (a .args .state) (a .args .last) (ok a) (full a) (z .block-bytes .ensures) (z .before .bits-of .ensures) (p .before .before .before .bits-of2 .ensures)
+    (p .before .ended .ensures) (p .ends-in-one .ensures) (e .if1 .left)
+    (c .before .before .before .before .of2 .ensures) (c .before .before .before .compress2 .ensures) (c .before .before .with-length2 .ensures)
+    (c .before .of3 .ensures) (c .compress3 .ensures)
+
+pub close-spec : {M : Type 1} → statement M
+close-spec =
+    tie.close
+    (tie.spec
+    (λ c κs. few (c .before .before .before))
+    (λ c κs. search needs)
+    (λ c. positive (c .before))
+    (λ c κs. (omega (arith, below (c .before)), few (start (c .before)) .1))
+    (λ c κs. (below (c .before .before .before), start (c .before .before .before) .pre .1))
+    (λ c κs. search needs)
+    (λ c κs. few (start (sizing (c .before))))
+    (λ c κs. search needs)
+    (λ c κs. search needs)
+    (λ c κs. search needs)
+    returns
+    (λ c κs. search needs)
+    (λ c κs. search needs)
+    (λ c κs. few (start (sizing (c .before .before .before))))
+    (λ c κs. search needs)
+    (λ c κs. search needs)
+    returns-2)

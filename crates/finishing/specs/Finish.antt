@@ -1,0 +1,47 @@
+-- Finish, as a total function of its inputs: its tests in the documents' order, its result, and what its lent buffer holds afterwards.
+use mathlib.Core.Bool.{not}
+use mathlib.Core.List.{List, [], _∷_}
+use Prim.Native.Nat.{ℕ, _+_, _*_, _%_}
+use lib.Dec.{ltb}
+use lib.ListN.{length, take}
+use Rattle.family.specs.Family.{blockBytes}
+use Rattle.answers.specs.declared.refusal.Refusal.the-variants.{StateInconsistent, BufferShort, BitsUnfit}
+use Rattle.answers.specs.declared.refusal.Answer.{Answer}
+use Rattle.answers.specs.Refusal.{judged}
+use Rattle.answers.specs.Written.{written}
+use Rattle.reports.specs.Report.{reported}
+use Rattle.bits.specs.declared.LastBits.{LastBits}
+use Rattle.bits.specs.Bits.{lastFits, digestBytes, firstBits}
+use Rattle.bits.specs.Message.{messageOf}
+use Rattle.fields.specs.Fields.{bytesOf}
+use Rattle.state.specs.declared.State.{State}
+use Rattle.state.specs.State.{consistentOf}
+use Rattle.finishing.specs.declared.Finished.{Finished}
+use Rattle.finishing.specs.Blocks.{lastBlocks, chainOver}
+
+-- the bytes of a state that are in no whole block yet
+unfoldable pub heldOf : State → List ℕ
+heldOf s = take (s .covered .0 % blockBytes (s .family)) (s .held)
+
+-- what finishing a state with last bits compresses, and its digest
+unfoldable pub closing : State → LastBits → List (ℕ × List ℕ)
+closing s last = lastBlocks (s .family) (s .m) (8 * s .covered .0 + last .count) (messageOf (heldOf s) last)
+
+unfoldable pub stateDigest : State → LastBits → List ℕ
+stateDigest s last = firstBits (s .m) (bytesOf (chainOver (s .family) (s .salt) (closing s last) (s .chain)))
+
+-- finish: 4, 11, 5. It hands back the state that it was given.
+unfoldable pub finishAnswer : State → LastBits → List ℕ → Answer
+finishAnswer s last out =
+    judged (
+    (not (consistentOf s), StateInconsistent) ∷ (not (lastFits last), BitsUnfit) ∷ (ltb (length out) (digestBytes (s .m)), BufferShort) ∷ []
+    )
+
+unfoldable pub finishOf : State → LastBits → List ℕ → Finished
+finishOf s last out = record {
+  report = reported (finishAnswer s last out) (s .covered .0) (last .count) (s .compressed + length (closing s last));
+  state = s;
+}
+
+unfoldable pub finishBuffer : State → LastBits → List ℕ → List ℕ
+finishBuffer s last out = written (finishAnswer s last out) (stateDigest s last) out
