@@ -58,8 +58,6 @@ while read -r name; do
 done <crates/bootchecks/args | cmp - crates/bootchecks/stdout
 
 rt fmt --check
-# Checks are started in batches, each of which waits for its slowest: with more of them than processors, less waiting is idle.
-export RT_JOBS=${RT_JOBS:-$((2 * $(nproc)))}
 status=0
 rt ci 2>&1 | tee "$made/ci" || status=$?
 passed=$(sed -n '$s/^\([0-9]*\) passed, 0 failed$/\1/p' "$made/ci")
