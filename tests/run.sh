@@ -51,10 +51,11 @@ cp samples/agrees.registers samples/agrees.events "$made/agrees"
 diff -r "$made/agrees" crates/chimbersu/data
 cmp samples/agrees.log crates/chimbersu/stdout
 cmp samples/smallest.log crates/bootcheck/stdin
-"$made/second" print <samples/smallest.log | cmp - crates/bootcheck/stdout
+cmp samples/smallest.txt crates/bootcheck/stdout
 while read -r name; do
+    "$made/second" print <"samples/$name" | cmp - "samples/${name%.log}.txt"
     echo "$name"
-    "$made/second" print <"samples/$name"
+    cat "samples/${name%.log}.txt"
 done <crates/bootchecks/args | cmp - crates/bootchecks/stdout
 
 rt fmt --check

@@ -6,7 +6,8 @@ use crate::lines::{hex, last_text, state_text, write_text};
 use crate::random::Random;
 use crate::write::Lent;
 use crate::{
-    cases_bits, cases_log, cases_message, cases_records, cases_saved, cases_state, cases_write,
+    cases_bits, cases_log, cases_message, cases_places, cases_records, cases_saved, cases_state,
+    cases_write,
 };
 
 pub const FAMILIES: [Family; 2] = [Family::Small, Family::Large];
@@ -125,6 +126,7 @@ pub fn text() -> String {
     cases_write::write(&mut w);
     cases_records::write(&mut w);
     cases_bits::write(&mut w);
+    cases_places::write(&mut w);
     w.text
 }
 

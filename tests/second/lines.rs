@@ -120,8 +120,8 @@ fn answer_one_shot(words: &[&str]) -> Option<String> {
 
 fn answer_check(log: &[u8], mut buffer: Vec<u8>) -> Option<String> {
     let a = check(log, &mut buffer);
-    let counts = format!("{} {} {} {}", a.number, a.registers, a.events, a.blocks);
-    Some(format!("check {counts} {} {}", a.verdict, hex(&buffer)))
+    let counts = format!("{} {} {} {}", a.registers, a.events, a.blocks, a.verdict);
+    Some(format!("check {} {} {counts} {}", a.number, a.offset(), hex(&buffer)))
 }
 
 fn answer_write(words: &[&str]) -> Option<String> {

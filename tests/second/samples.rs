@@ -1,7 +1,8 @@
-//! Sample logs, and the parts that one of them is written from.
+//! Sample logs, what the check program prints for each, and the parts that one of them is written
+//! from.
 
-use crate::log::LONGEST;
-use crate::parts::{contents, counted, Parts};
+use crate::log::{printed_check, LONGEST};
+use crate::parts::{contents, Parts};
 use crate::random::Random;
 use std::path::Path;
 
@@ -20,7 +21,7 @@ pub fn longest() -> Vec<u8> {
     log
 }
 
-/// Name and contents of each sample.
+/// Name and contents of each sample log.
 pub fn all() -> Vec<(&'static str, Vec<u8>)> {
     let mut random = Random::new(5);
     let open = Parts::random(&mut random, true, 3, 5);
@@ -34,20 +35,25 @@ pub fn all() -> Vec<(&'static str, Vec<u8>)> {
     let cut = agrees.bytes()[..agrees.bytes().len() - 7].to_vec();
     let leftover = [agrees.bytes(), vec![0]].concat();
 
-    let mut too_many = open.sections();
-    too_many[1][..2].copy_from_slice(&counted(25));
+    // Inside the digest of event 3, the last but one.
+    let cut_event = open.bytes()[..260].to_vec();
 
     let mut register = open.clone();
     register.events[2].register = 3;
 
     vec![
+        ("empty.log", Vec::new()),
         ("smallest.log", smallest()),
         ("noclaim.log", open.bytes()),
         ("agrees.log", agrees.bytes()),
         ("differs.log", differs.bytes()),
         ("cut.log", cut),
+        ("cut_event.log", cut_event),
         ("leftover.log", leftover),
-        ("count.log", too_many.concat()),
+        ("salt_count.log", open.miscounted(0, 31)),
+        ("count.log", open.miscounted(1, 25)),
+        ("event_count.log", open.miscounted(2, 1025)),
+        ("claim_count.log", agrees.miscounted(3, 3)),
         ("register.log", register.bytes()),
         ("longest.log", longest()),
         ("too_long.log", [longest(), vec![0]].concat()),
@@ -66,10 +72,18 @@ pub fn lent_files() -> [(&'static str, Vec<u8>); 2] {
     [("agrees.registers", registers), ("agrees.events", events)]
 }
 
+/// Name and contents of the file beside each log: what is printed for it.
+pub fn texts() -> Vec<(String, String)> {
+    all().iter().map(|(name, log)| (name.replace(".log", ".txt"), printed_check(log))).collect()
+}
+
 pub fn write(folder: &Path) -> std::io::Result<()> {
     std::fs::create_dir_all(folder)?;
     for (name, bytes) in all().into_iter().chain(lent_files()) {
         std::fs::write(folder.join(name), bytes)?;
+    }
+    for (name, text) in texts() {
+        std::fs::write(folder.join(name), text)?;
     }
     Ok(())
 }

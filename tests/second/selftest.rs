@@ -11,6 +11,7 @@ use crate::printed::{salt_byte, Message, What, TABLE};
 use crate::samples::smallest;
 use crate::saved::{load, save};
 use crate::selftest_bits::bit_values;
+use crate::selftest_places::place_values;
 use crate::selftest_records::record_values;
 use crate::selftest_write::write_values;
 use crate::stage;
@@ -139,6 +140,7 @@ pub fn run() -> (String, bool) {
     write_values(&mut tally);
     record_values(&mut tally);
     bit_values(&mut tally);
+    place_values(&mut tally);
     let mut text: String =
         tally.missed.iter().map(|label| format!("selftest: not met: {label}\n")).collect();
     text += &format!("selftest: {} values met\n", tally.met);

@@ -18,17 +18,22 @@ const PRINTED: &str = "accepted 3 3 6 noclaim\n\
     2 2 4cc0efba0ef98626865458b4153e1ac06bca4a4be2efc0f5dee00fd7063ba012\n";
 
 /// The samples: the first line printed, and the extensions of each register, counted in the file.
-const SAMPLES: [(&str, &str, &[usize]); 10] = [
+const SAMPLES: [(&str, &str, &[usize]); 15] = [
+    ("empty.log", "refused 6 at 0", &[]),
     ("smallest.log", "accepted 1 0 0 noclaim", &[0]),
     ("noclaim.log", "accepted 3 5 10 noclaim", &[0, 3, 2]),
     ("agrees.log", "accepted 4 9 18 agrees", &[3, 0, 2, 4]),
     ("differs.log", "accepted 6 20 40 differs 3", &[2, 2, 1, 8, 3, 4]),
-    ("cut.log", "refused 6", &[]),
-    ("leftover.log", "refused 6", &[]),
-    ("count.log", "refused 7", &[]),
-    ("register.log", "refused 8", &[]),
+    ("cut.log", "refused 6 at 581", &[]),
+    ("cut_event.log", "refused 6 at 260", &[]),
+    ("leftover.log", "refused 6 at 588", &[]),
+    ("salt_count.log", "refused 7 at 0", &[]),
+    ("count.log", "refused 7 at 34", &[]),
+    ("event_count.log", "refused 7 at 132", &[]),
+    ("claim_count.log", "refused 7 at 458", &[]),
+    ("register.log", "refused 8 at 206", &[]),
     ("longest.log", "accepted 24 1024 2048 agrees", &LONGEST_EXTENSIONS),
-    ("too_long.log", "refused 6", &[]),
+    ("too_long.log", "refused 6 at 38440", &[]),
 ];
 
 const LONGEST_EXTENSIONS: [usize; 24] = [
@@ -101,7 +106,7 @@ fn checked(log: &[u8], room: usize) -> (Answer, Vec<u8>) {
 fn refusal(log: &[u8], room: usize) -> Option<u8> {
     let (answer, buffer) = checked(log, room);
     let verdict = Verdict::NoClaim;
-    let refused = Answer { number: answer.number, registers: 0, events: 0, blocks: 0, verdict };
+    let refused = Answer { registers: 0, events: 0, blocks: 0, verdict, ..answer };
     (answer == refused && buffer == vec![0xaa; room]).then_some(answer.number)
 }
 
@@ -306,9 +311,9 @@ fn line_values(tally: &mut Tally) {
     let zeros = |count: usize| "00".repeat(count);
     let log = format!("00000100{}00000000", zeros(32));
     let line = |room: usize| answer_all(format!("check {log} {}\n", "ff".repeat(room)).as_bytes());
-    let right = line(36) == format!("check 0 1 0 0 noclaim {}ffff\n", zeros(34));
+    let right = line(36) == format!("check 0 0 1 0 0 noclaim {}ffff\n", zeros(34));
     tally.value("a check line with room", right);
-    let right = line(33) == format!("check 5 0 0 0 noclaim {}\n", "ff".repeat(33));
+    let right = line(33) == format!("check 5 0 0 0 0 noclaim {}\n", "ff".repeat(33));
     tally.value("a check line without room", right);
 }
 

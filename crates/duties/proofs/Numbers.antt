@@ -24,10 +24,10 @@ use Rattle.loading.specs.Reading.{familyIn, restIn, sectionTests, familyTests, 
 use Rattle.records.specs.Events.{eventList}
 use Rattle.logger.specs.Write.{registersIn, eventsIn, startsFit, eventsFit, foreign, partsAnswer, logFor, writeAnswer}
 use Rattle.answers.proofs.Judged.{judged-first}
-use Rattle.layout.specs.declared.Place.{Place}
-use Rattle.layout.specs.declared.Place.the-variants as place
+use Rattle.layout.specs.declared.End.{End}
+use Rattle.layout.specs.declared.End.the-variants as end
 use Rattle.fields.specs.Fields.{numberAt}
-use Rattle.layout.specs.Layout.{saltCount, endIf, sectionEnd, eventsEnd, andThen, reads, saltEnd, registersEnd, eventSectionEnd, claimsEnd, layoutAt, readingOf}
+use Rattle.layout.specs.Layout.{saltCount, endAfter, sectionEnd, eventsEnd, andThen, reads, saltEnd, registersEnd, eventSectionEnd, claimsEnd, layoutAt, readingOf}
 use Rattle.layout.proofs.Sections.{event-none, event-short, event-next, event-foreign}
 
 -- ---- a call's tests
@@ -88,13 +88,13 @@ abbrev pub logNumbers : List ℕ
 logNumbers = 6 ∷ 7 ∷ 8 ∷ []
 
 -- a place, or one of the log's numbers
-data Reached : Place → Type 0 where
-  reached : {i : ℕ} → Reached (place.At i)
-  stopped : {r : Refusal} → List·Memᴰ (refusalNumber r) logNumbers → Reached (place.Refused r)
+data Reached : End → Type 0 where
+  reached : {i : ℕ} → Reached (end.At i)
+  stopped : {r : Refusal} {o : ℕ} → List·Memᴰ (refusalNumber r) logNumbers → Reached (end.Refused r o)
 
 pub data Read : Reading → Type 0 where
   whole : {at : Layout} → Read (reading.Whole at)
-  refused : {r : Refusal} → List·Memᴰ (refusalNumber r) logNumbers → Read (reading.Refused r)
+  refused : {r : Refusal} {o : ℕ} → List·Memᴰ (refusalNumber r) logNumbers → Read (reading.Refused r o)
 
 six : List·Memᴰ 6 logNumbers
 six = List·Memᴰ·head refl
@@ -103,7 +103,7 @@ section-reached : (log : List ℕ) (i : ℕ) (allowed : Bool) (size : ℕ) → R
 unfolding sectionEnd
 section-reached log i allowed size = by (ltb (length log) (i + 2)) allowed (ltb (length log) (i + 2 + size * numberAt log i))
   where
-    by : (s a t : Bool) → Reached (endIf (judged ((s, LogExtent) ∷ (not a, SectionCount) ∷ (t, LogExtent) ∷ [])) (i + 2 + size * numberAt log i))
+    by : (s a t : Bool) → Reached (endAfter ((s, LogExtent, length log) ∷ (not a, SectionCount, i) ∷ (t, LogExtent, length log) ∷ []) (i + 2 + size * numberAt log i))
     by true a t = stopped six
     by false false t = stopped (List·Memᴰ·tail (List·Memᴰ·head refl))
     by false true true = stopped six
@@ -121,18 +121,18 @@ events-reached log registers i (suc n) = elim (decLt (length log) (i + 36)) [
   ]
 ]
 
-then-reached : {p : Place} (f : ℕ → Place) → Reached p → ((i : ℕ) → Reached (f i)) → Reached (andThen p f)
+then-reached : {p : End} (f : ℕ → End) → Reached p → ((i : ℕ) → Reached (f i)) → Reached (andThen p f)
 then-reached f (reached {i}) g = g i
 then-reached f (stopped h) g = stopped h
 
-reads-read : {p : Place} (f : ℕ → Reading) → Reached p → ((i : ℕ) → Read (f i)) → Read (reads p f)
+reads-read : {p : End} (f : ℕ → Reading) → Reached p → ((i : ℕ) → Read (f i)) → Read (reads p f)
 reads-read f (reached {i}) g = g i
 reads-read f (stopped h) g = refused h
 
 module _ (log : List ℕ) where
   -- the reading from each section on
   abbrev fromEnd : ℕ → ℕ → ℕ → ℕ → Reading
-  fromEnd second third fourth end = elim (eqb (length log) end) [ true ↦ reading.Whole (layoutAt log second third fourth) | false ↦ reading.Refused LogExtent ]
+  fromEnd second third fourth end = elim (eqb (length log) end) [ true ↦ reading.Whole (layoutAt log second third fourth) | false ↦ reading.Refused LogExtent end ]
 
   abbrev fromClaims : ℕ → ℕ → ℕ → Reading
   fromClaims second third fourth = reads (claimsEnd log (numberAt log second) fourth) (fromEnd second third fourth)
@@ -146,7 +146,7 @@ module _ (log : List ℕ) where
   end-read : (second third fourth end : ℕ) → Read (fromEnd second third fourth end)
   end-read second third fourth end = by (eqb (length log) end)
     where
-      by : (t : Bool) → Read (elim t [ true ↦ reading.Whole (layoutAt log second third fourth) | false ↦ reading.Refused LogExtent ])
+      by : (t : Bool) → Read (elim t [ true ↦ reading.Whole (layoutAt log second third fourth) | false ↦ reading.Refused LogExtent end ])
       by true = whole
       by false = refused six
 

@@ -11,6 +11,7 @@ use Rattle.answers.specs.declared.refusal.Refusal.{Refusal}
 use Rattle.answers.specs.declared.refusal.Refusal.the-variants.{DigestLength, SaltSize, MessageLimit, StateInconsistent, BufferShort, BitsUnfit}
 use Rattle.answers.specs.declared.refusal.Answer.{Answer}
 use Rattle.answers.specs.declared.refusal.Answer.the-variants as answer
+use Rattle.log_answers.specs.declared.place.Place.the-variants.{At, Nowhere}
 use Rattle.log_answers.specs.declared.reading.Reading.{Reading}
 use Rattle.log_answers.specs.declared.reading.Reading.the-variants as reading
 use Rattle.log_answers.specs.declared.checked.Verdict.{Verdict}
@@ -43,19 +44,19 @@ use Rattle.duties.proofs.Numbers.{logNumbers, Read, whole, refused, jud
 
 -- A check is refused by the log's reading, or for its buffer, or accepted.
 module _ (P : Checked → List ℕ → Type 0) (log out : List ℕ)
-    (unread : (r : Refusal) → List·Memᴰ (refusalNumber r) logNumbers → P (checked.Refused r) out)
-    (short : P (checked.Refused BufferShort) out)
+    (unread : (r : Refusal) (o : ℕ) → List·Memᴰ (refusalNumber r) logNumbers → P (checked.Refused r (At o)) out)
+    (short : P (checked.Refused BufferShort Nowhere) out)
     (done : (r n b : ℕ) (v : Verdict) (after : List ℕ) → P (checked.Accepted r n b v) after) where
   check-cases : P (checkOf log (length out)) (checkBuffer log out)
   unfolding checkedAt
   check-cases = by (readingOf log) refl (reading-read log)
     where
-      room : (t : Bool) (r n b : ℕ) (v : Verdict) (after : List ℕ) → P (cond t (checked.Refused BufferShort) (checked.Accepted r n b v)) (cond t out after)
+      room : (t : Bool) (r n b : ℕ) (v : Verdict) (after : List ℕ) → P (cond t (checked.Refused BufferShort Nowhere) (checked.Accepted r n b v)) (cond t out after)
       room true r n b v after = short
       room false r n b v after = done r n b v after
 
       by : (x : Reading) → readingOf log ≡ x → Read x → P (checkOf log (length out)) (checkBuffer log out)
-      by (reading.Refused r) e (refused h) = rw (← refused-answer log r e (length out), ← refused-buffer log r e out) (unread r h)
+      by (reading.Refused r o) e (refused h) = rw (← refused-answer log r o e (length out), ← refused-buffer log r o e out) (unread r o h)
       by (reading.Whole at) e whole = rw (← check-answer log at e (length out) refl, ← check-buffer log at e out refl) (room (ltb (length out) (34 * at .registers)) _ _ _ _ _)
 
 -- a call's number tells its answer
@@ -96,7 +97,7 @@ every-call-listed (load form) = judged-among (form-among form (not (consistentOf
 every-call-listed (read log) = reading-listed (reading-read log)
 every-call-listed (check log out) =
     check-cases (λ (c : Checked) (b : List ℕ). List·Memᴰ (checkNumber c) (0 ∷ 6 ∷ 7 ∷ 8 ∷ 5 ∷ [])) log out
-    (λ r m. List·Memᴰ·tail (Memᴰ·append-left (5 ∷ []) m))
+    (λ r o m. List·Memᴰ·tail (Memᴰ·append-left (5 ∷ []) m))
     (List·Memᴰ·tail (List·Memᴰ·tail (List·Memᴰ·tail (List·Memᴰ·tail (List·Memᴰ·head refl)))))
     (λ r n b v after. List·Memᴰ·head refl)
 every-call-listed (print log out) = by (ltb (length out) (length (printoutOf log)))
@@ -124,9 +125,9 @@ refusal-leaves (read log) h = (tt, tt, by (readingOf log) h)
   where
     by : (x : Reading) → (readingNumber x ≡ 0 → ⊥) → (readingRegisters x ≡ 0) × (readingEvents x ≡ 0)
     by (reading.Whole at) h = absurd (h refl)
-    by (reading.Refused r) h = (refl, refl)
+    by (reading.Refused r o) h = (refl, refl)
 refusal-leaves (check log out) h =
-    let z = check-cases (Left out) log out (λ r m h. (refl, (refl, refl, refl, refl))) (λ h. (refl, (refl, refl, refl, refl))) (λ r n b v after h. absurd (h refl)) h in
+    let z = check-cases (Left out) log out (λ r o m h. (refl, (refl, refl, refl, refl))) (λ h. (refl, (refl, refl, refl, refl))) (λ r n b v after h. absurd (h refl)) h in
     (tt, z .0, z .1)
 refusal-leaves (print log out) h = let z = by (ltb (length out) (length (printoutOf log))) refl h in (tt, z .0, z .1)
   where

@@ -85,5 +85,5 @@ unfolding total
 extensions-add-up log out = by (readingOf log) refl
   where
     by : (x : Reading) → readingOf log ≡ x → total (extensionsAt (checkBuffer log out)) (checkRegisters (checkOf log (length out))) ≡ checkEvents (checkOf log (length out))
-    by (reading.Refused r) e = rw (← refused-answer log r e (length out))
+    by (reading.Refused r o) e = rw (← refused-answer log r o e (length out))
     by (reading.Whole at) e = rw (← check-answer log at e (length out) refl) (accepted-total log at e out)

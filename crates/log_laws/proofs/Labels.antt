@@ -1,19 +1,21 @@
--- Labels have no influence: logs that differ in labels only are read alike, refusals included, and have the same check.
+-- Labels have no influence: logs that differ in labels only are read alike, refusals and their places included, and have the same check.
 use mathlib.Core.Path.{_≡_, refl, sym, _∙_}
-use mathlib.Core.List.{List}
+use mathlib.Core.Bool.{Bool, true, false}
+use mathlib.Core.List.{List, [], _∷_}
 use mathlib.Core.Logic.{⊎-elim}
 use Prim.Native.Nat.{ℕ, zero, suc, _+_, _*_, _<_, _≤_}
 use native.Mathlib.Omega.{arith}
-use lib.Dec.{leb}
+use lib.Dec.{leb, ltb}
 use lib.ListN.{length, take, drop, getD, set, length-set, length-take, length-drop}
 use lib.Seq.{getD-take, getD-drop, getD-set-other, ext-getD}
-use Rattle.layout.specs.declared.Place.{Place}
-use Rattle.layout.specs.declared.Place.the-variants.{At, Refused}
+use Rattle.answers.specs.declared.refusal.Refusal.the-variants.{LogExtent, EventRegister}
+use Rattle.layout.specs.declared.End.{End}
+use Rattle.layout.specs.declared.End.the-variants.{At, Refused}
 use Rattle.log_answers.specs.declared.reading.Layout.{Layout}
 use Rattle.log_answers.specs.declared.reading.Reading.{Reading}
 use Rattle.log_answers.specs.declared.reading.Reading.the-variants as reading
 use Rattle.fields.specs.Fields.{numberIn, numberAt}
-use Rattle.layout.specs.Layout.{andThen, reads, sectionEnd, saltEnd, registersEnd, eventsEnd, eventSectionEnd, claimsEnd, readingOf}
+use Rattle.layout.specs.Layout.{endAfter, andThen, reads, sectionEnd, saltEnd, registersEnd, eventsEnd, eventSectionEnd, claimsEnd, readingOf}
 use Rattle.layout.specs.Layout.{saltOf, startsOf, eventsOf, claimsOf}
 use Rattle.records.specs.Events.{eventList, extensions}
 use Rattle.bootlog.specs.Replay.{saltInEffect, replayed, endValues}
@@ -27,13 +29,21 @@ use Rattle.bootlog.proofs.Verdicts.{check-answer, check-buffer, refused-answer,
 use Rattle.log_laws.specs.Labels.{thirdAt, LabelByte, LabelsOnly}
 
 -- what follows a section matters only where that section ends
-reads-same : {p q : Place} (f g : ℕ → Reading) → p ≡ q → ((i : ℕ) → p ≡ At i → f i ≡ g i) → reads p f ≡ reads q g
+reads-same : {p q : End} (f g : ℕ → Reading) → p ≡ q → ((i : ℕ) → p ≡ At i → f i ≡ g i) → reads p f ≡ reads q g
 reads-same {p = At i} f g e h = rw (← e) (h i refl)
-reads-same {p = Refused r} f g e h = rw (← e)
+reads-same {p = Refused r o} f g e h = rw (← e)
 
-then-same : {p q : Place} (f g : ℕ → Place) → p ≡ q → ((i : ℕ) → p ≡ At i → f i ≡ g i) → andThen p f ≡ andThen q g
+then-same : {p q : End} (f g : ℕ → End) → p ≡ q → ((i : ℕ) → p ≡ At i → f i ≡ g i) → andThen p f ≡ andThen q g
 then-same {p = At i} f g e h = rw (← e) (h i refl)
-then-same {p = Refused r} f g e h = rw (← e)
+then-same {p = Refused r o} f g e h = rw (← e)
+
+-- and what follows an event only behind it
+next-same : (s t : Bool) (size i : ℕ) (f g : ℕ → End) → f (i + 36) ≡ g (i + 36)
+    → andThen (endAfter ((s, LogExtent, size) ∷ (t, EventRegister, i) ∷ []) (i + 36)) f
+    ≡ andThen (endAfter ((s, LogExtent, size) ∷ (t, EventRegister, i) ∷ []) (i + 36)) g
+next-same true t size i f g h = refl
+next-same false true size i f g h = refl
+next-same false false size i f g h = h
 
 module _ (log : List ℕ) where
   -- the places of the second count and the third
@@ -96,8 +106,11 @@ module _ (log log′ : List ℕ) (d : LabelsOnly log log′) where
   unfolding eventsEnd
   events-end r zero k = refl
   events-end r (suc n) k =
-      let z : thirdAt log + 2 + 36 * k + 36 ≡ thirdAt log + 2 + 36 * suc k = omega arith in
-      cc (d .size, register-same k, events-end r n (suc k))
+      let i = thirdAt log + 2 + 36 * k in
+      let z : i + 36 ≡ thirdAt log + 2 + 36 * suc k = omega arith in
+      rw (d .size, register-same k)
+      (next-same (ltb (length log′) (i + 36)) (leb r (numberAt log′ i)) (length log′) i (λ next. eventsEnd log r next n) (λ next. eventsEnd log′ r next n)
+      (rw z (events-end r n (suc k))))
 
   event-section-end : {r r′ i : ℕ} → r ≡ r′ → i ≡ thirdAt log → eventSectionEnd log r i ≡ eventSectionEnd log′ r′ i
   unfolding eventSectionEnd sectionEnd
@@ -194,8 +207,8 @@ labels-check log log′ d out = by (readingOf log′) (labels-reading log log′
   where
     by : (r : Reading) → readingOf log ≡ r → readingOf log′ ≡ r
         → (checkOf log (length out) ≡ checkOf log′ (length out)) × (checkBuffer log out ≡ checkBuffer log′ out)
-    by (reading.Refused r) e e′ =
-        (sym (refused-answer log r e (length out)) ∙ refused-answer log′ r e′ (length out), sym (refused-buffer log r e out) ∙ refused-buffer log′ r e′ out)
+    by (reading.Refused r o) e e′ =
+        (sym (refused-answer log r o e (length out)) ∙ refused-answer log′ r o e′ (length out), sym (refused-buffer log r o e out) ∙ refused-buffer log′ r o e′ out)
     by (reading.Whole at) e e′ = (
       sym (check-answer log at e (length out) refl) ∙ check-answer log′ at e′ (length out) (checked-same log log′ d at e e′ (length out)),
       check-buffer log′ at e′ out (rw (records-same log log′ d at e e′) at (sym (check-buffer log at e out refl))),

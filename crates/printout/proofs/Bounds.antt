@@ -1,4 +1,4 @@
--- The numbers of a check's answer are small: R at most 24, N at most 1,024, the register that differs below R.
+-- The numbers of a check's answer are small: R at most 24, N at most 1,024, the register that differs below R, a refusal's offset at most 38,440.
 use mathlib.Core.Path.{_≡_, refl, ap}
 use mathlib.Core.Bool.{Bool, true, false, cond}
 use mathlib.Core.List.{List}
@@ -22,6 +22,7 @@ use Rattle.answers.specs.declared.refusal.Refusal.the-variants.{BufferShort}
 use Rattle.answers.specs.declared.written.Written.the-variants.{Bytes, Refused}
 use Rattle.text.specs.Place.{placed}
 use Rattle.layout.proofs.Sizes.{counts}
+use Rattle.layout.proofs.Places.{refused-within}
 use Rattle.bootlog.proofs.Logs.{log-blocks}
 use Rattle.bootlog.proofs.Recorded.{recorded-number, few-extensions}
 use Rattle.printout.specs.Printout.{textOf, printoutOf, printOf}
@@ -50,7 +51,7 @@ unfolding checkOf checkedAt
 modest log = by (readingOf log) refl
   where
     by : (x : Reading) → readingOf log ≡ x → Modest (checkOf log 816)
-    by (reading.Refused r) e = rw (e, checkOf) tt
+    by (reading.Refused r o) e = rw (e, checkOf) (omega (arith, refused-within log r o e))
     by (reading.Whole at) e =
         let c = counts log at e in
         rw (e, checkOf, le-ltb 816 (34 * at .registers) (omega (arith, c .most)), log-blocks log at e)
@@ -62,7 +63,7 @@ unfolding checkOf checkedAt
 few log r = by (readingOf log) refl
   where
     by : (x : Reading) → readingOf log ≡ x → r < checkRegisters (checkOf log 816) → extensionsAt (checkBuffer log (replicate 816 0)) r < 10000
-    by (reading.Refused x) e h = absurd (omega (arith, rw (e, checkOf) at h))
+    by (reading.Refused x o) e h = absurd (omega (arith, rw (e, checkOf) at h))
     by (reading.Whole at) e h =
         let room : 34 * at .registers ≤ 816 = omega (arith, counts log at e .most) in
         let below : r < at .registers = rw (e, checkOf, le-ltb 816 (34 * at .registers) room) at h in

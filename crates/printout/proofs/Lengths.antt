@@ -8,6 +8,9 @@ use lib.ListN.{length, drop, length-append, length-take}
 use borrow.Author.Tests.{eq-eqb}
 use Rattle.answers.proofs.Numbers.{refusal-small}
 use Rattle.answers.specs.Refusal.{refusalNumber}
+use Rattle.answers.specs.declared.refusal.Refusal.{Refusal}
+use Rattle.log_answers.specs.declared.place.Place.{Place}
+use Rattle.log_answers.specs.declared.place.Place.the-variants.{At, Nowhere}
 use Rattle.log_answers.specs.declared.checked.Verdict.{Verdict}
 use Rattle.log_answers.specs.declared.checked.Verdict.the-variants.{NoClaim, Agrees, Differs}
 use Rattle.log_answers.specs.declared.checked.Checked.{Checked}
@@ -16,7 +19,7 @@ use Rattle.log_answers.specs.Checked.{checkRegisters}
 use Rattle.records.specs.Records.{joined, valueAt, extensionsAt}
 use Rattle.text.specs.Digits.{decimalIn, decimalOf, hexOf}
 use Rattle.text.proofs.Storing.{hex-length}
-use Rattle.printout.specs.Printout.{space, feed, verdictText, registerLine, registerLines, spaced, textOf}
+use Rattle.printout.specs.Printout.{space, feed, verdictText, registerLine, registerLines, spaced, placeText, refusalLine, textOf}
 
 -- a number below 10 ^ d has at most d digits
 digits-length : (d k n : ℕ) → n < 10 ^ suc d → length (decimalIn k n) ≤ suc d
@@ -31,9 +34,12 @@ digits-length (suc d) (suc k) n h =
     shorter true f = omega arith
     shorter false f = f
 
-pub decimal-length : (n : ℕ) → n < 10000 → length (decimalOf n) ≤ 4
+decimal-digits : (d n : ℕ) → n < 10 ^ suc d → length (decimalOf n) ≤ suc d
 unfolding decimalOf
-decimal-length n h = digits-length 3 (suc n) n h
+decimal-digits d n h = digits-length d (suc n) n h
+
+decimal-length : (n : ℕ) → n < 10000 → length (decimalOf n) ≤ 4
+decimal-length n h = decimal-digits 3 n h
 
 spaced-length : (n : ℕ) → n < 10000 → length (spaced n) ≤ 5
 unfolding spaced
@@ -77,15 +83,30 @@ Register NoClaim = Unit {0}
 Register Agrees = Unit {0}
 Register (Differs r) = r < 24
 
+abbrev pub Low : Place → Type 0
+Low (At i) = i < 100000
+Low Nowhere = Unit {0}
+
 abbrev pub Modest : Checked → Type 0
 Modest (Accepted r n b v) = (r ≤ 24) × (n ≤ 1024) × (b ≤ 2048) × Register v
-Modest (Refused x) = Unit {0}
+Modest (Refused x p) = Low p
 
 verdict-length : (v : Verdict) → Register v → length (verdictText v) ≤ 12
 unfolding verdictText
 verdict-length NoClaim h = omega arith
 verdict-length Agrees h = omega arith
 verdict-length (Differs r) h = omega (arith, decimal-length r (omega arith))
+
+place-length : (p : Place) → Low p → length (placeText p) ≤ 10
+unfolding placeText
+place-length (At i) h = omega (arith, length-append (decimalOf i) feed, decimal-digits 4 i h)
+place-length Nowhere h = omega arith
+
+refusal-length : (x : Refusal) (p : Place) → Low p → length (refusalLine x p) ≤ 22
+unfolding refusalLine
+refusal-length x p h =
+    let n = refusalNumber x in
+    omega (arith, length-append (decimalOf n) (placeText p), decimal-length n (omega (arith, refusal-small x)), place-length p h)
 
 pub text-length : (c : Checked) (records : List ℕ) → Modest c → ((r : ℕ) → r < checkRegisters c → extensionsAt records r < 10000) → length (textOf c records) ≤ 2048
 unfolding textOf
@@ -103,5 +124,4 @@ text-length (Accepted r n b v) records h g =
       verdict-length v (h .3),
       lines-length records r (omega arith) g,
     )
-text-length (Refused x) records h g =
-    let n = refusalNumber x in omega (arith, length-append (decimalOf n) feed, decimal-length n (omega (arith, refusal-small x)))
+text-length (Refused x p) records h g = omega (arith, refusal-length x p h)

@@ -3,11 +3,12 @@ ghost use mathlib.Core.Path.{_≡_};
 ghost use lib.ListN.{length};
 ghost use Rattle.text.specs.Digits.{decimalOf, hexOf};
 ghost use Rattle.text.specs.Place.{placed};
-ghost use Rattle.printout.specs.Printout.{verdictText, registerLine, registerLines, spaced, textOf, printoutOf, printOf};
+ghost use Rattle.printout.specs.Printout.{verdictText, registerLine, registerLines, spaced, placeText, refusalLine, textOf, printoutOf, printOf};
 ghost use Rattle.printout.specs.Wrote.{Room, Wrote};
 use answers::Refusal;
 use answers::Written;
 use log_answers::Checked;
+use log_answers::Place;
 use log_answers::Verdict;
 
 // A buffer of so many bytes is never too short for a check's text.
@@ -80,6 +81,30 @@ fn lines(out: &mut [u8], at: usize, records: &[u8], count: usize) -> usize
     behind
 }
 
+// The end of a refusal's line: its place, where it has one.
+fn place_end(out: &mut [u8], at: usize, place: Place) -> usize
+    requires { ⌜ Room (now out) at (placeText place) ⌝ }
+    ensures { λ r. ⌜ Wrote (now (out .entry)) at (placeText place) (now (out .exit)) r ⌝ }
+{
+    match place {
+        Place::At(offset) => {
+            let a = word(out, at, b" at ");
+            let b = number(out, a, offset);
+            word(out, b, b"\n")
+        }
+        Place::Nowhere => word(out, at, b"\n"),
+    }
+}
+
+fn refusal_line(out: &mut [u8], refusal: Refusal, place: Place) -> usize
+    requires { ⌜ Room (now out) 0 (refusalLine refusal place) ⌝ }
+    ensures { λ r. ⌜ Wrote (now (out .entry)) 0 (refusalLine refusal place) (now (out .exit)) r ⌝ }
+{
+    let a = word(out, 0, b"refused ");
+    let b = number(out, a, refusal.number() as usize);
+    place_end(out, b, place)
+}
+
 fn compose(out: &mut [u8], records: &[u8], checked: Checked) -> usize
     requires { ⌜ Room (now out) 0 (textOf checked (now records)) ⌝ }
     ensures { λ r. ⌜ Wrote (now (out .entry)) 0 (textOf checked (now (records .entry))) (now (out .exit)) r ⌝ }
@@ -94,11 +119,7 @@ fn compose(out: &mut [u8], records: &[u8], checked: Checked) -> usize
             let f = word(out, e, b"\n");
             lines(out, f, records, registers)
         }
-        Checked::Refused(refusal) => {
-            let a = word(out, 0, b"refused ");
-            let b = number(out, a, refusal.number() as usize);
-            word(out, b, b"\n")
-        }
+        Checked::Refused(refusal, place) => refusal_line(out, refusal, place),
     }
 }
 

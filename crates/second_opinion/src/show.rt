@@ -94,11 +94,13 @@ fn verdict(out: &mut [u8], at: usize, verdict: Verdict) -> usize {
     }
 }
 
-// The refusal number or 0, the registers, the events, the blocks compressed and the verdict.
+// The refusal number or 0, its offset, the registers, the events, the blocks compressed and the verdict.
 pub(crate) fn checked(out: &mut [u8], at: usize, checked: Checked) -> usize {
+    let place = checked.place();
     let a = number(out, at, checked.number() as u64);
-    let b = number(out, a, checked.registers() as u64);
-    let c = number(out, b, checked.events() as u64);
-    let d = number(out, c, checked.blocks() as u64);
-    verdict(out, d, checked.verdict())
+    let b = number(out, a, place.offset() as u64);
+    let c = number(out, b, checked.registers() as u64);
+    let d = number(out, c, checked.events() as u64);
+    let e = number(out, d, checked.blocks() as u64);
+    verdict(out, e, checked.verdict())
 }

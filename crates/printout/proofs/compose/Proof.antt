@@ -111,42 +111,16 @@ returns c =
     (both (w3 .spaced-number2 .ensures)
     (both (w4 .spaced-number3 .ensures) (both (w5 .verdict .ensures) (both (w6 .word2 .ensures) (c .before .before .lines .ensures)))))))
 
--- a refusal: its number stands behind the word, and the line feed behind the number
-abbrev begin : tie.After-checked2 → tie.Start
-begin k = k .before .before .before .before
-
-abbrev numberText : tie.After-checked2 → List ℕ
-numberText k = decimalOf (refusalNumber (k .checked2 .given .0 .0))
-
-roomR : (k : tie.After-checked2) → Room (begin k .args .out .now) 0 (refusedWord ++ (numberText k ++ feed))
+-- or the line of a refusal
+refusal-line-requires : tie.Need-refusal-line-requires
 unfolding textOf
-roomR k = same-room (ap (λ (x : Checked). textOf x (begin k .args .records .now)) (k .checked2 .given .1)) (begin k .pre)
-
-word-requires-3 : tie.Need-word-requires-3
-word-requires-3 c κs = let k = c .before .before .before in first {xs = refusedWord} (numberText k ++ feed) (roomR k)
-
-behindWord : (c : tie.After-word3) → Room (c .word3 .last .0) (c .word3 .result) (numberText (c .before .before .before .before) ++ feed)
-behindWord c = rest (c .word3 .ensures) (roomR (c .before .before .before .before))
-
-number-requires-2 : tie.Need-number-requires-2
-number-requires-2 c κs = same-room (ap decimalOf (sym (c .number .ensures))) (first feed (behindWord (c .before .before .before .before)))
-
-numbered : (c : tie.After-number2)
-    → Wrote (c .before .before .before .before .before .word3 .last .0) (c .before .before .before .before .before .word3 .result)
-    (numberText (c .before .before .before .before .before .before .before .before .before)) (c .number2 .last .0) (c .number2 .result)
-numbered c = same-wrote (ap decimalOf (c .before .number .ensures)) (c .number2 .ensures)
-
-word-requires-4 : tie.Need-word-requires-4
-word-requires-4 c κs =
-    let n = c .before .before .before .before in
-    rest (numbered n) (behindWord (n .before .before .before .before .before))
+refusal-line-requires c κs =
+    let k = c .before .before in
+    same-room (ap (λ (x : Checked). textOf x (k .before .before .before .before .args .records .now)) (k .checked2 .given .1)) (k .before .before .before .before .pre)
 
 returns-2 : tie.Need-returns-2
 unfolding textOf
-returns-2 c =
-    let n = c .before .before .before .before .before .before .before in
-    let w = n .before .before .before .before .before in
-    rw (w .before .before .before .before .checked2 .given .1) (both (w .word3 .ensures) (both (numbered n) (c .before .before .word4 .ensures)))
+returns-2 c = rw (c .before .before .before .before .before .checked2 .given .1) (c .before .before .refusal-line .ensures)
 
 pub compose-spec : {M : Type 1} → statement M
 compose-spec =
@@ -163,13 +137,7 @@ compose-spec =
     word-requires-2
     lines-requires
     (λ c. search needs)
-    (λ c. search needs)
-    word-requires-3
-    (λ c κs. search needs)
-    (λ c. search needs)
-    number-requires-2
-    (λ c. search needs)
-    word-requires-4
+    refusal-line-requires
     (λ c. search needs)
     returns
     (λ c. search needs)
