@@ -24,11 +24,11 @@ use Rattle.loading.specs.Reading.{familyIn, restIn, sectionTests, familyTests, 
 use Rattle.records.specs.Events.{eventList}
 use Rattle.logger.specs.Write.{registersIn, eventsIn, startsFit, eventsFit, foreign, partsAnswer, logFor, writeAnswer}
 use Rattle.answers.proofs.Judged.{judged-first}
-use Rattle.layout.specs.declared.End.{End}
-use Rattle.layout.specs.declared.End.the-variants as end
 use Rattle.fields.specs.Fields.{numberAt}
-use Rattle.layout.specs.Layout.{saltCount, endAfter, sectionEnd, eventsEnd, andThen, reads, saltEnd, registersEnd, eventSectionEnd, claimsEnd, layoutAt, readingOf}
-use Rattle.layout.proofs.Sections.{event-none, event-short, event-next, event-foreign}
+use Rattle.layout.specs.Layout.{saltCount, readingOf}
+use Rattle.bad_logs.specs.Steps.{Next, refusal, Bad}
+use Rattle.bad_logs.specs.Steps as steps
+use Rattle.bad_logs.proofs.Reach.{refused-bad}
 
 -- ---- a call's tests
 -- the numbers of a list of tests
@@ -87,11 +87,6 @@ write-listed salt starts events wish room =
 abbrev pub logNumbers : List ℕ
 logNumbers = 6 ∷ 7 ∷ 8 ∷ []
 
--- a place, or one of the log's numbers
-data Reached : End → Type 0 where
-  reached : {i : ℕ} → Reached (end.At i)
-  stopped : {r : Refusal} {o : ℕ} → List·Memᴰ (refusalNumber r) logNumbers → Reached (end.Refused r o)
-
 pub data Read : Reading → Type 0 where
   whole : {at : Layout} → Read (reading.Whole at)
   refused : {r : Refusal} {o : ℕ} → List·Memᴰ (refusalNumber r) logNumbers → Read (reading.Refused r o)
@@ -99,65 +94,31 @@ pub data Read : Reading → Type 0 where
 six : List·Memᴰ 6 logNumbers
 six = List·Memᴰ·head refl
 
-section-reached : (log : List ℕ) (i : ℕ) (allowed : Bool) (size : ℕ) → Reached (sectionEnd log i allowed size)
-unfolding sectionEnd
-section-reached log i allowed size = by (ltb (length log) (i + 2)) allowed (ltb (length log) (i + 2 + size * numberAt log i))
+seven : List·Memᴰ 7 logNumbers
+seven = List·Memᴰ·tail (List·Memᴰ·head refl)
+
+refusal-listed : (s : Next) → List·Memᴰ (refusalNumber (refusal s)) logNumbers
+refusal-listed steps.salt = seven
+refusal-listed (steps.saltBytes n) = six
+refusal-listed steps.registers = seven
+refusal-listed (steps.registerBytes r) = six
+refusal-listed (steps.events r) = seven
+refusal-listed (steps.event r n) = List·Memᴰ·tail (List·Memᴰ·tail (List·Memᴰ·head refl))
+refusal-listed (steps.claims r) = seven
+refusal-listed (steps.claimBytes n) = six
+refusal-listed steps.end = six
+
+bad-listed : {log : List ℕ} {r : Refusal} {o : ℕ} → Bad log r o → List·Memᴰ (refusalNumber r) logNumbers
+bad-listed (steps.cut p h) = six
+bad-listed (steps.wrong {s = s} p h g) = refusal-listed s
+bad-listed (steps.extra p h) = six
+
+pub reading-read : (log : List ℕ) → Read (readingOf log)
+reading-read log = by (readingOf log) refl
   where
-    by : (s a t : Bool) → Reached (endAfter ((s, LogExtent, length log) ∷ (not a, SectionCount, i) ∷ (t, LogExtent, length log) ∷ []) (i + 2 + size * numberAt log i))
-    by true a t = stopped six
-    by false false t = stopped (List·Memᴰ·tail (List·Memᴰ·head refl))
-    by false true true = stopped six
-    by false true false = reached
-
-events-reached : (log : List ℕ) (registers i n : ℕ) → Reached (eventsEnd log registers i n)
-events-reached log registers i zero = rw (event-none log registers i 0 (omega arith)) reached
-events-reached log registers i (suc n) = elim (decLt (length log) (i + 36)) [
-  | yes h ↦ rw (event-short log registers i (suc n) h (omega arith)) (stopped six)
-  | no h ↦ elim (decLt (numberAt log i) registers) [
-    | yes g ↦ rw (event-next log registers i n (omega arith) g) (events-reached log registers (i + 36) n)
-    | no g ↦
-        rw (event-foreign log registers i (suc n) (omega arith) (omega arith) (omega arith))
-        (stopped (List·Memᴰ·tail (List·Memᴰ·tail (List·Memᴰ·head refl))))
-  ]
-]
-
-then-reached : {p : End} (f : ℕ → End) → Reached p → ((i : ℕ) → Reached (f i)) → Reached (andThen p f)
-then-reached f (reached {i}) g = g i
-then-reached f (stopped h) g = stopped h
-
-reads-read : {p : End} (f : ℕ → Reading) → Reached p → ((i : ℕ) → Read (f i)) → Read (reads p f)
-reads-read f (reached {i}) g = g i
-reads-read f (stopped h) g = refused h
-
-module _ (log : List ℕ) where
-  -- the reading from each section on
-  abbrev fromEnd : ℕ → ℕ → ℕ → ℕ → Reading
-  fromEnd second third fourth end = elim (eqb (length log) end) [ true ↦ reading.Whole (layoutAt log second third fourth) | false ↦ reading.Refused LogExtent end ]
-
-  abbrev fromClaims : ℕ → ℕ → ℕ → Reading
-  fromClaims second third fourth = reads (claimsEnd log (numberAt log second) fourth) (fromEnd second third fourth)
-
-  abbrev fromEvents : ℕ → ℕ → Reading
-  fromEvents second third = reads (eventSectionEnd log (numberAt log second) third) (fromClaims second third)
-
-  abbrev fromRegisters : ℕ → Reading
-  fromRegisters second = reads (registersEnd log second) (fromEvents second)
-
-  end-read : (second third fourth end : ℕ) → Read (fromEnd second third fourth end)
-  end-read second third fourth end = by (eqb (length log) end)
-    where
-      by : (t : Bool) → Read (elim t [ true ↦ reading.Whole (layoutAt log second third fourth) | false ↦ reading.Refused LogExtent end ])
-      by true = whole
-      by false = refused six
-
-  pub reading-read : Read (readingOf log)
-  unfolding readingOf saltEnd registersEnd eventSectionEnd claimsEnd
-  reading-read =
-      reads-read fromRegisters (section-reached log 0 _ 1) (λ second.
-      reads-read (fromEvents second) (section-reached log second _ 32) (λ third.
-      reads-read (fromClaims second third)
-      (then-reached (λ from. eventsEnd log (numberAt log second) from (numberAt log third)) (section-reached log third _ 0) (λ from. events-reached log (numberAt log second) from (numberAt log third)))
-      (λ fourth. reads-read (fromEnd second third fourth) (section-reached log fourth _ 32) (end-read second third fourth))))
+    by : (x : Reading) → readingOf log ≡ x → Read x
+    by (reading.Whole at) e = whole
+    by (reading.Refused r o) e = refused (bad-listed (refused-bad log r o e))
 
 -- its number is 0 or one of these
 pub reading-listed : {x : Reading} → Read x → List·Memᴰ (readingNumber x) (0 ∷ logNumbers)

@@ -1,5 +1,6 @@
 pub mod Exact
 pub mod Labels
-pub mod Longest
+pub mod Room
+pub mod Places
 pub mod Registers
 pub mod Extensions

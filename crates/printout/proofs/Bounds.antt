@@ -22,7 +22,7 @@ use Rattle.answers.specs.declared.refusal.Refusal.the-variants.{BufferShort}
 use Rattle.answers.specs.declared.written.Written.the-variants.{Bytes, Refused}
 use Rattle.text.specs.Place.{placed}
 use Rattle.layout.proofs.Sizes.{counts}
-use Rattle.layout.proofs.Places.{refused-within}
+use Rattle.bad_logs.proofs.Far.{refused-place}
 use Rattle.bootlog.proofs.Logs.{log-blocks}
 use Rattle.bootlog.proofs.Recorded.{recorded-number, few-extensions}
 use Rattle.printout.specs.Printout.{textOf, printoutOf, printOf}
@@ -51,7 +51,7 @@ unfolding checkOf checkedAt
 modest log = by (readingOf log) refl
   where
     by : (x : Reading) → readingOf log ≡ x → Modest (checkOf log 816)
-    by (reading.Refused r o) e = rw (e, checkOf) (omega (arith, refused-within log r o e))
+    by (reading.Refused r o) e = rw (e, checkOf) (omega (arith, refused-place log r o e))
     by (reading.Whole at) e =
         let c = counts log at e in
         rw (e, checkOf, le-ltb 816 (34 * at .registers) (omega (arith, c .most)), log-blocks log at e)

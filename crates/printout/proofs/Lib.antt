@@ -1,4 +1,5 @@
 pub mod Writing
 pub mod Lengths
 pub mod Bounds
+pub mod Refusals
 pub mod Example

@@ -17,7 +17,7 @@ use Rattle.log_answers.specs.declared.reading.Layout.{Layout}
 use Rattle.log_answers.specs.declared.reading.Reading.the-variants.{Whole}
 use Rattle.layout.specs.Layout.{readingOf, saltOf, startsOf, eventsOf, claimsOf}
 use Rattle.layout.proofs.Spelled.{Fitting, layoutFor, spelled-length, spelled-read, spelled-salt, spelled-starts, spelled-events, spelled-claims}
-use Rattle.log_laws.proofs.Longest.{accepted-size}
+use Rattle.bad_logs.proofs.Far.{accepted-size}
 use Rattle.logger.specs.Write.{registersIn, eventsIn, partsAnswer, claimsFor, logFor, writeAnswer, writeOf, writeBuffer}
 use Rattle.logger.proofs.Parts.{parts-fit, end-values-length}
 

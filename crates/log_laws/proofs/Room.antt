@@ -1,4 +1,4 @@
--- How long an accepted log can be, and how much room its check needs.
+-- How much room the check of a log needs.
 use mathlib.Core.Path.{_≡_, refl}
 use mathlib.Core.List.{List}
 use Prim.Native.Nat.{ℕ, _*_, _≤_}
@@ -10,14 +10,8 @@ use Rattle.log_answers.specs.declared.reading.Reading.the-variants.{Whole}
 use Rattle.layout.specs.Layout.{readingOf}
 use Rattle.log_answers.specs.Checked.{checkNumber}
 use Rattle.bootlog.specs.Check.{checkedAt, checkOf}
-use Rattle.layout.proofs.Readings.{read-whole}
-use Rattle.layout.proofs.Places.{ends-within}
 use Rattle.layout.proofs.Sizes.{counts}
 use Rattle.bootlog.proofs.Verdicts.{check-answer}
-
--- At most 38,440 bytes; a log of that size is run (samples/longest.log).
-pub accepted-size : (log : List ℕ) (at : Layout) → readingOf log ≡ Whole at → length log ≤ 38440
-accepted-size log at e = ends-within log (read-whole log at e .ends)
 
 -- A buffer of 816 bytes is never too short for a check: a log that is read whole is accepted.
 pub check-room : (log : List ℕ) (at : Layout) → readingOf log ≡ Whole at → (room : ℕ) → 816 ≤ room → checkNumber (checkOf log room) ≡ 0

@@ -1,0 +1,5 @@
+pub mod Walk
+pub mod Reach
+pub mod Begun
+pub mod Meanings
+pub mod Far
