@@ -2,16 +2,15 @@
 use mathlib.Core.Path.{_≡_, refl, ap, sym, _∙_}
 use mathlib.Core.Bool.{true}
 use mathlib.Core.List.{List, [], _∷_, _++_, append-nil}
-use Prim.Native.Nat.{ℕ, zero, suc, _+_, _*_, _≤_, _<_}
+use Prim.Native.Nat.{ℕ, zero, suc, _+_, _*_, _≤_}
 use native.Mathlib.Omega.{arith}
 use lib.Dec.{leb}
-use lib.ListN.{length, take, drop, replicate, length-append, length-take, length-drop, length-replicate}
-use lib.Seq.{length-take-le, take-at, drop-at, drop-drop}
+use lib.ListN.{length, take, drop, replicate, length-append, length-drop, length-replicate}
+use lib.Seq.{length-take-le, take-at, drop-at}
 use borrow.Author.Tests.{leb-true, lt-leb}
 use Rattle.answers.proofs.Tests.{and-left}
 use Rattle.fields.specs.Fields.{numberIn, numberAt}
 use Rattle.fields.proofs.There.{number-dropped, behind}
-use Rattle.layout.specs.Layout.{readingOf}
 use Rattle.bad_logs.specs.Steps.{Next, salt, saltBytes, registers, registerBytes, events, event, claims, claimBytes, end, size, good, left, after, Reached, start, onward}
 use Rattle.bad_logs.specs.Meaning.{Begins}
 use Rattle.bad_logs.proofs.Reach.{reached-bound, reached-same, end-read}

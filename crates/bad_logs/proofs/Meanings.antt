@@ -1,23 +1,22 @@
 -- What the place of a refusal means, number by number, and of accepted logs that are cut or go on.
 use mathlib.Core.Path.{_≡_, refl, ap, sym, _∙_}
-use mathlib.Core.Bool.{Bool, true, false, not, cond}
+use mathlib.Core.Bool.{Bool, true, false, cond}
 use mathlib.Core.List.{List, [], _∷_, _++_, append-nil, append-assoc}
 use mathlib.Core.Logic.{_⊎_, inl, inr}
-use Prim.Native.Nat.{ℕ, zero, suc, _+_, _-_, _*_, _≤_, _<_}
+use Prim.Native.Nat.{ℕ, _+_, _-_, _≤_, _<_}
 use native.Mathlib.Omega.{arith}
 use native.Mathlib.Decide.{decLt}
 use lib.Dec.{leb}
-use lib.ListN.{length, take, drop, replicate, length-append, length-replicate}
+use lib.ListN.{length, take, replicate, length-append, length-replicate}
 use lib.Seq.{length-take-le, take-all, take-take, take-append-le}
 use borrow.Author.Tests.{leb-true, not-false}
 use Rattle.answers.specs.declared.refusal.Refusal.{Refusal}
 use Rattle.answers.specs.declared.refusal.Refusal.the-variants.{LogExtent, SectionCount, EventRegister}
 use Rattle.log_answers.specs.declared.reading.Layout.{Layout}
-use Rattle.log_answers.specs.declared.reading.Reading.{Reading}
 use Rattle.log_answers.specs.declared.reading.Reading.the-variants.{Whole, Refused}
 use Rattle.fields.specs.Fields.{numberAt}
 use Rattle.layout.specs.Layout.{readingOf}
-use Rattle.bad_logs.specs.Steps.{Next, salt, saltBytes, registers, registerBytes, events, event, claims, claimBytes, end, size, good, refusal, left, after, Reached, start, onward, Bad, cut, wrong, extra}
+use Rattle.bad_logs.specs.Steps.{Next, salt, saltBytes, registers, registerBytes, events, event, claims, claimBytes, end, size, good, refusal, Reached, start, onward, Bad, cut, wrong, extra}
 use Rattle.bad_logs.specs.Meaning.{Begins, Count, of-salt, of-registers, of-events, of-claims, BadCount, BadRegister, Cut, Leftover}
 use Rattle.bad_logs.proofs.Reach.{reached-bound, number-same, front-same, front-there, reached-same, bad-refused, refused-bad, end-read, whole-reached}
 use Rattle.bad_logs.proofs.Begun.{begins}

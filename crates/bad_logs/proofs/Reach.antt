@@ -1,10 +1,10 @@
 -- Places that reading comes to: what is left to read there, that only what stands before them matters, and which fate each leads to.
 use mathlib.Core.Path.{_≡_, refl, ap, sym, _∙_}
-use mathlib.Core.Bool.{Bool, true, false, not, cond}
+use mathlib.Core.Bool.{Bool, true, false, cond}
 use mathlib.Core.List.{List}
-use Prim.Native.Nat.{ℕ, zero, suc, _+_, _*_, _≤_, _<_}
+use Prim.Native.Nat.{ℕ, zero, suc, _+_, _≤_, _<_}
 use native.Mathlib.Omega.{arith}
-use lib.Dec.{eqb, leb, ltb}
+use lib.Dec.{eqb, ltb}
 use lib.ListN.{length, take, drop, length-take, take-append-drop}
 use lib.Seq.{length-take-le, take-take}
 use borrow.Author.Tests.{lt-ltb, le-ltb, eq-eqb, ne-eqb, eqb-true, eqb-false, ltb-true, ltb-false}
@@ -17,7 +17,7 @@ use Rattle.fields.specs.Fields.{numberAt}
 use Rattle.fields.proofs.Numbers.{number-inside}
 use Rattle.layout.specs.Layout.{readingOf}
 use Rattle.bad_logs.specs.Steps.{Next, salt, saltBytes, registers, registerBytes, events, event, claims, claimBytes, end, size, good, refusal, left, after, Reached, start, onward, Bad, cut, wrong, extra}
-use Rattle.bad_logs.proofs.Walk.{Fate, read, bad, fate, from, reading-from, stepped, step}
+use Rattle.bad_logs.proofs.Walk.{Fate, read, bad, fate, from, reading-from, step}
 
 module _ (log : List ℕ) where
   pub reached-bound : {i : ℕ} {s : Next} → Reached log i s → i ≤ length log

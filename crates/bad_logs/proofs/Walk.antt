@@ -2,20 +2,20 @@
 use mathlib.Core.Path.{_≡_, refl}
 use mathlib.Core.Bool.{Bool, true, false, not, cond}
 use mathlib.Core.List.{List, [], _∷_}
-use Prim.Native.Nat.{ℕ, zero, suc, _+_, _*_, _≤_, _<_}
+use Prim.Native.Nat.{ℕ, zero, suc, _+_, _*_, _≤_}
 use native.Mathlib.Omega.{arith}
 use native.Mathlib.Decide.{decLt}
-use lib.Dec.{eqb, leb, ltb}
+use lib.Dec.{eqb, ltb}
 use lib.ListN.{length}
-use borrow.Author.Tests.{lt-ltb, le-ltb, lt-leb, le-leb, leb-true, leb-false}
+use borrow.Author.Tests.{lt-ltb, le-ltb, lt-leb, le-leb}
 use Rattle.answers.specs.declared.refusal.Refusal.{Refusal}
-use Rattle.answers.specs.declared.refusal.Refusal.the-variants.{LogExtent, SectionCount, EventRegister}
+use Rattle.answers.specs.declared.refusal.Refusal.the-variants.{LogExtent, SectionCount}
 use Rattle.log_answers.specs.declared.reading.Reading.{Reading}
 use Rattle.log_answers.specs.declared.reading.Reading.the-variants as reading
 use Rattle.fields.specs.Fields.{numberAt}
 use Rattle.layout.specs.declared.End.{End}
 use Rattle.layout.specs.declared.End.the-variants.{At, Refused}
-use Rattle.layout.specs.Layout.{endAfter, reads, sectionEnd, eventsEnd, saltCount, saltEnd, registerCount, registersEnd, eventCount, eventSectionEnd, claimCount, claimsEnd, readingOf}
+use Rattle.layout.specs.Layout.{endAfter, reads, sectionEnd, eventsEnd, saltCount, saltEnd, registerCount, registersEnd, eventSectionEnd, claimCount, claimsEnd, readingOf}
 use Rattle.layout.proofs.Readings as readings
 use Rattle.layout.proofs.Sections.{event-short, event-foreign, event-next, event-none, event-section-short, event-section-barred, event-section-events}
 use Rattle.bad_logs.specs.Steps.{Next, salt, saltBytes, registers, registerBytes, events, event, claims, claimBytes, end, size, good, refusal, left, after}

@@ -2,13 +2,11 @@
 use mathlib.Core.Path.{_≡_, refl}
 use mathlib.Core.Bool.{Bool, true, false, not}
 use mathlib.Core.List.{List, [], _∷_, _++_, map, List·Memᴰ, List·Memᴰ·head, List·Memᴰ·tail}
-use Prim.Native.Nat.{ℕ, zero, suc, _+_, _*_}
-use lib.Dec.{eqb, ltb}
+use Prim.Native.Nat.{ℕ, _+_, _*_}
+use lib.Dec.{ltb}
 use lib.ListN.{length}
-use native.Mathlib.Omega.{arith}
-use native.Mathlib.Decide.{decLt}
 use Rattle.answers.specs.declared.refusal.Refusal.{Refusal}
-use Rattle.answers.specs.declared.refusal.Refusal.the-variants.{SaltSize, StateInconsistent, BufferShort, LogExtent, SectionCount, EventRegister}
+use Rattle.answers.specs.declared.refusal.Refusal.the-variants.{SaltSize, StateInconsistent, BufferShort, SectionCount, EventRegister}
 use Rattle.answers.specs.declared.refusal.Answer.{Answer}
 use Rattle.answers.specs.declared.refusal.Answer.the-variants as answer
 use Rattle.log_answers.specs.declared.reading.Layout.{Layout}
@@ -24,7 +22,6 @@ use Rattle.loading.specs.Reading.{familyIn, restIn, sectionTests, familyTests, 
 use Rattle.records.specs.Events.{eventList}
 use Rattle.logger.specs.Write.{registersIn, eventsIn, startsFit, eventsFit, foreign, partsAnswer, logFor, writeAnswer}
 use Rattle.answers.proofs.Judged.{judged-first}
-use Rattle.fields.specs.Fields.{numberAt}
 use Rattle.layout.specs.Layout.{saltCount, readingOf}
 use Rattle.bad_logs.specs.Steps.{Next, refusal, Bad}
 use Rattle.bad_logs.specs.Steps as steps

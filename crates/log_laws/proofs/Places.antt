@@ -1,5 +1,5 @@
 -- What the place in a check's answer says: a place is the log's own, and only a short buffer has none.
-use mathlib.Core.Path.{_≡_, refl, sym, _∙_}
+use mathlib.Core.Path.{_≡_, refl, _∙_}
 use mathlib.Core.Bool.{Bool, true, false, cond}
 use mathlib.Core.List.{List}
 use Prim.Native.Nat.{ℕ, _*_}
@@ -13,7 +13,6 @@ use Rattle.log_answers.specs.declared.reading.Layout.{Layout}
 use Rattle.log_answers.specs.declared.reading.Reading.{Reading}
 use Rattle.log_answers.specs.declared.reading.Reading.the-variants as reading
 use Rattle.log_answers.specs.declared.checked.Verdict.{Verdict}
-use Rattle.log_answers.specs.declared.checked.Checked.{Checked}
 use Rattle.log_answers.specs.declared.checked.Checked.the-variants.{Accepted, Refused}
 use Rattle.layout.specs.Layout.{readingOf}
 use Rattle.bootlog.specs.Check.{checkedAt, checkOf}

@@ -6,12 +6,15 @@ use Rattle.outcome.proofs.Outcome.{one}
 use Rattle.answers.specs.declared.refusal.Answer.{Answer}
 use Rattle.answers.specs.declared.refusal.Refusal.{Refusal}
 use Rattle.reports.specs.declared.Report.{Report}
+use Rattle.log_answers.specs.declared.place.Place.{Place}
 use Rattle.log_answers.specs.declared.reading.Reading.{Reading}
 use Rattle.log_answers.specs.declared.checked.Verdict.{Verdict}
 use Rattle.log_answers.specs.declared.checked.Checked.{Checked}
 use Rattle.answers.specs.declared.written.Written.{Written}
 use Rattle.answers.specs.Refusal.{refusalNumber, answerNumber, firstOf}
-use Rattle.log_answers.specs.Checked.{checkVerdict}
+use Rattle.log_answers.specs.Place.{placeOffset}
+use Rattle.log_answers.specs.Reading.{readingPlace}
+use Rattle.log_answers.specs.Checked.{checkPlace, checkVerdict}
 
 -- `Refusal::number`
 pub refusal-one : (r : Refusal) → OneOutcome (λ (n : ℕ). n ≡ refusalNumber r)
@@ -24,6 +27,17 @@ answer-one a = one (answerNumber a)
 -- `number`, `covered`, `bits` and `blocks` of a report
 pub report-one : (value : Report → ℕ) (x : Report) → OneOutcome (λ (n : ℕ). n ≡ value x)
 report-one value x = one (value x)
+
+-- `Place::offset`
+pub offset-one : (p : Place) → OneOutcome (λ (n : ℕ). n ≡ placeOffset p)
+offset-one p = one (placeOffset p)
+
+-- `Reading::place`, `Checked::place`
+pub reading-place-one : (x : Reading) → OneOutcome (λ (p : Place). p ≡ readingPlace x)
+reading-place-one x = one (readingPlace x)
+
+pub check-place-one : (x : Checked) → OneOutcome (λ (p : Place). p ≡ checkPlace x)
+check-place-one x = one (checkPlace x)
 
 -- `number`, `registers` and `events` of a reading
 pub reading-one : (value : Reading → ℕ) (x : Reading) → OneOutcome (λ (n : ℕ). n ≡ value x)

@@ -1,16 +1,14 @@
 -- Forgetting the place gives the reading and the check as they were, so the order of the tests is unchanged; buffers, and the text of accepted logs, are what they were.
-use mathlib.Core.Path.{_≡_, refl, ap, sym, _∙_}
+use mathlib.Core.Path.{_≡_, refl, _∙_}
 use mathlib.Core.Bool.{Bool, true, false, not, cond}
 use mathlib.Core.List.{List, [], _∷_, _++_}
 use Prim.Native.Nat.{ℕ, zero, suc, _+_, _*_}
 use native.Mathlib.Omega.{arith}
 use lib.Dec.{eqb, leb, ltb}
 use lib.ListN.{length, drop, replicate}
-use Rattle.answers.specs.declared.refusal.Refusal.{Refusal}
 use Rattle.answers.specs.declared.refusal.Refusal.the-variants.{BufferShort, LogExtent, SectionCount, EventRegister}
 use Rattle.answers.specs.declared.refusal.Answer.the-variants as answer
 use Rattle.answers.specs.Refusal.{judged}
-use Rattle.log_answers.specs.declared.place.Place.{Place}
 use Rattle.log_answers.specs.declared.place.Place.the-variants as place
 use Rattle.log_answers.specs.declared.reading.Layout.{Layout}
 use Rattle.log_answers.specs.declared.reading.Reading.{Reading}
@@ -21,7 +19,7 @@ use Rattle.log_answers.specs.declared.checked.Checked.the-variants as checked
 use Rattle.fields.specs.Fields.{numberAt}
 use Rattle.layout.specs.declared.End.{End}
 use Rattle.layout.specs.declared.End.the-variants as end
-use Rattle.layout.specs.Layout.{endAfter, andThen, reads, sectionEnd, eventsEnd, saltCount, saltEnd, registerCount, registersEnd, eventCount, eventSectionEnd, claimCount, claimsEnd, layoutAt, readingOf}
+use Rattle.layout.specs.Layout.{endAfter, andThen, reads, sectionEnd, eventsEnd, saltEnd, registersEnd, eventSectionEnd, claimsEnd, layoutAt, readingOf}
 use Rattle.layout.proofs.Readings.{fromEnd, fromClaims, fromEvents, fromRegisters}
 use Rattle.bootlog.specs.Check.{logRecords, checkedAt, checkOf, checkBuffer}
 use Rattle.printout.specs.Printout.{textOf, printoutOf}

@@ -12,7 +12,6 @@ use Rattle.log_answers.specs.declared.reading.Reading.{Reading}
 use Rattle.log_answers.specs.declared.reading.Reading.the-variants as reading
 use Rattle.log_answers.specs.declared.checked.Verdict.the-variants.{NoClaim, Differs}
 use Rattle.log_answers.specs.declared.checked.Checked.{Checked}
-use Rattle.log_answers.specs.declared.checked.Checked.the-variants as checked
 use Rattle.layout.specs.Layout.{readingOf, claimsOf}
 use Rattle.records.specs.Records.{registerAt, extensionsAt}
 use Rattle.fields.specs.Fields.{same}

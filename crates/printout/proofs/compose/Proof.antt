@@ -1,14 +1,12 @@
 -- Line 1 piece by piece and the registers' lines behind it; or the line of a refusal.
-use mathlib.Core.Path.{ap, sym}
+use mathlib.Core.Path.{ap}
 use mathlib.Core.List.{List, _++_}
 use Prim.Native.Nat.{ℕ}
 use borrow.Author.Needs.{needs}
-use Rattle.answers.specs.Refusal.{refusalNumber}
 use Rattle.log_answers.specs.declared.checked.Checked.{Checked}
-use Rattle.text.specs.Digits.{decimalOf}
-use Rattle.printout.specs.Printout.{feed, acceptedWord, refusedWord, verdictText, registerLines, spaced, textOf}
-use Rattle.printout.specs.Wrote.{Room, Wrote}
-use Rattle.printout.proofs.Writing.{both, rest, same-room, same-wrote, first}
+use Rattle.printout.specs.Printout.{feed, acceptedWord, verdictText, registerLines, spaced, textOf}
+use Rattle.printout.specs.Wrote.{Room}
+use Rattle.printout.proofs.Writing.{both, rest, same-room, first}
 use Rattle.printout.proofs.compose.Statement.{statement}
 use Rattle.printout.proofs.compose.Tie as tie
 
