@@ -138,6 +138,11 @@ sed -nE 's/^    (accepted [0-9]+ .*|[0-9]+ [0-9]+ [0-9a-f]{64})$/\1/p' README.md
 head -n 3 "$made/print" | cmp - "$made/shown"
 one_more
 
+# README's refusal is the one that is printed.
+bin/run bootcheck <samples/register.log | cmp - samples/register.txt
+sed -nE 's/^    (refused [0-9]+ at [0-9]+)$/\1/p' README.md | cmp - samples/register.txt
+one_more
+
 # The small family's compression stands apart from the large one's words in every program but the one that hashes nothing, and needs little stack.
 rustc -O --edition 2021 tests/stack.rs -o "$made/stack"
 for main in crates/*/src/main.rt; do
