@@ -48,8 +48,8 @@ pub record BadRegister (log : List ℕ) (o : ℕ) : Type 0 where
   pub same : (log′ : List ℕ) → take (o + 2) log′ ≡ take (o + 2) log → o + 36 ≤ length log′ → readingOf log′ ≡ Refused EventRegister o
   pub shorter : (log′ : List ℕ) → take (o + 2) log′ ≡ take (o + 2) log → length log′ < o + 36 → readingOf log′ ≡ Refused LogExtent (length log′)
 
--- 6 at the log's size: the log is cut inside the part that begins at `from`, or before it. Everything before that part is good; and some longer log that begins with this
--- one is accepted, or is refused for a count or a register of which this one has the first byte at least.
+-- 6 at the log's size: the part that begins at `from` is not whole, or not there at all. Everything before it is good; and some longer log that begins with this one
+-- is accepted, or is refused for the count or the register of that part, of which this log has the first byte at least.
 pub record Cut (log : List ℕ) : Type 0 where
   pub from : ℕ
   pub part : Next

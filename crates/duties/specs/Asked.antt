@@ -96,7 +96,8 @@ BufferKept (write salt starts events wish out) = writeBuffer salt starts events 
 abbrev pub NothingReported : Report → Type 0
 NothingReported r = (reportCovered r ≡ 0) × (reportBits r ≡ 0) × (reportBlocks r ≡ 0)
 
--- It answers zero for every other value and count, and noclaim for the verdict.
+-- It answers zero for every other value and count, and noclaim for the verdict. The place of a log's refusal is no such value: it says where the log went bad
+-- (document 02, Six).
 unfoldable pub ValuesZero : Asked → Type 0
 ValuesZero (begin m salt) = Unit {0}
 ValuesZero (add s xs) = Unit {0}
