@@ -8,7 +8,7 @@ use lib.Dec.{ltb}
 use Rattle.answers.specs.declared.refusal.Refusal.{Refusal}
 use Rattle.answers.specs.declared.refusal.Refusal.the-variants.{BufferShort}
 use Rattle.log_answers.specs.declared.place.Place.{Place}
-use Rattle.log_answers.specs.declared.place.Place.the-variants.{At, Nowhere}
+use Rattle.log_answers.specs.declared.place.Place.the-variants.{Nowhere}
 use Rattle.log_answers.specs.declared.reading.Layout.{Layout}
 use Rattle.log_answers.specs.declared.reading.Reading.{Reading}
 use Rattle.log_answers.specs.declared.reading.Reading.the-variants as reading
@@ -17,11 +17,7 @@ use Rattle.log_answers.specs.declared.checked.Checked.the-variants.{Accepted, R
 use Rattle.layout.specs.Layout.{readingOf}
 use Rattle.bootlog.specs.Check.{checkedAt, checkOf}
 use Rattle.bootlog.proofs.Verdicts.{check-answer, refused-answer}
-
--- a refusal of the check, and what it says of the log
-pub data Said (log : List ℕ) : Refusal → Place → Type 0 where
-  read-so : {r : Refusal} {o : ℕ} → readingOf log ≡ reading.Refused r o → Said log r (At o)
-  too-short : {at : Layout} → readingOf log ≡ reading.Whole at → Said log BufferShort Nowhere
+use Rattle.log_laws.specs.Places.{Said, read-so, too-short}
 
 -- Where the check is refused at an offset, so is the reading; where it has no place, the log is good and the buffer is short.
 pub check-said : (log : List ℕ) (room : ℕ) (r : Refusal) (p : Place) → checkOf log room ≡ Refused r p → Said log r p

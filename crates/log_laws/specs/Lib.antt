@@ -1,2 +1,3 @@
 pub mod Labels
 pub mod Extensions
+pub mod Places

@@ -23,20 +23,8 @@ use Rattle.layout.specs.Layout.{endAfter, andThen, reads, sectionEnd, eventsEnd
 use Rattle.layout.proofs.Readings.{fromEnd, fromClaims, fromEvents, fromRegisters}
 use Rattle.bootlog.specs.Check.{logRecords, checkedAt, checkOf, checkBuffer}
 use Rattle.printout.specs.Printout.{textOf, printoutOf}
-use Rattle.placeless.specs.Before.{EndBefore, ended, stopped, ReadingBefore, whole, unread, CheckedBefore, accepted, refused, endIf, sectionBefore, eventsBefore, andThenBefore, readsBefore, readingBefore, checkedBefore, checkBefore, bufferBefore, textBefore, printoutBefore}
-
--- without the place
-abbrev forgetEnd : End → EndBefore
-forgetEnd (end.At i) = ended i
-forgetEnd (end.Refused r o) = stopped r
-
-abbrev pub forgetReading : Reading → ReadingBefore
-forgetReading (reading.Whole l) = whole l
-forgetReading (reading.Refused r o) = unread r
-
-abbrev pub forgetChecked : Checked → CheckedBefore
-forgetChecked (checked.Accepted r n b v) = accepted r n b v
-forgetChecked (checked.Refused x p) = refused x
+use Rattle.placeless.specs.Forgotten.{forgetEnd, forgetReading, forgetChecked}
+use Rattle.placeless.specs.Before.{EndBefore, stopped, ReadingBefore, whole, unread, accepted, refused, endIf, sectionBefore, eventsBefore, andThenBefore, readsBefore, readingBefore, checkedBefore, checkBefore, bufferBefore, textBefore, printoutBefore}
 
 module _ (log : List ℕ) where
   section-before : (i : ℕ) (allowed : Bool) (size : ℕ) → forgetEnd (sectionEnd log i allowed size) ≡ sectionBefore log i allowed size
