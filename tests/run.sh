@@ -143,13 +143,25 @@ bin/run bootcheck <samples/register.log | cmp - samples/register.txt
 sed -nE 's/^    (refused [0-9]+ at [0-9]+)$/\1/p' README.md | cmp - samples/register.txt
 one_more
 
-# The small family's compression stands apart from the large one's words in every program but the one that hashes nothing, and needs little stack.
+# Each program that hashes has the form of the round that it is to have, and no other: first_stage the byte form, the programs for people the tables, and
+# second_opinion both. Where it goes byte by byte, the small family's compression stands apart from the large one's words, and needs little stack.
 rustc -O --edition 2021 tests/stack.rs -o "$made/stack"
+has() { grep -q "^[0-9a-f]* <$1>:$" "$made/functions"; }
+needs() { has "$1" || { echo "tests/run.sh: $program has no $1" >&2 && exit 1; }; }
+lacks() { ! has "$1" || { echo "tests/run.sh: $program has $1" >&2 && exit 1; }; }
 for main in crates/*/src/main.rt; do
     program=$(basename "${main%/src/main.rt}")
     [ "$program" = fips_round ] && continue
     echo "$program"
-    "$objdump" -d --no-show-raw-insn "target/bin/$program" | "$made/stack" compress::cipher::small "$(expected stack)"
+    "$objdump" -d --no-show-raw-insn "target/bin/$program" >"$made/functions"
+    case $program in
+        first_stage) lacks expanded::run_by_tables ;;
+        second_opinion) needs expanded::run_by_tables ;;
+        *) needs expanded::run_by_tables && lacks words::aes_round ;;
+    esac
+    case $program in
+        first_stage | second_opinion) "$made/stack" compress::cipher::small "$(expected stack)" <"$made/functions" ;;
+    esac
     one_more
 done
 have runs "$runs"

@@ -6,8 +6,8 @@ use crate::lines::{hex, last_text, state_text, write_text};
 use crate::random::Random;
 use crate::write::Lent;
 use crate::{
-    cases_bits, cases_log, cases_message, cases_places, cases_records, cases_saved, cases_state,
-    cases_write,
+    cases_bits, cases_log, cases_message, cases_places, cases_records, cases_round, cases_saved,
+    cases_state, cases_write,
 };
 
 pub const FAMILIES: [Family; 2] = [Family::Small, Family::Large];
@@ -96,6 +96,10 @@ impl Writer {
         self.line(&write_text(lent, &buffer));
     }
 
+    pub fn round(&mut self, columns: &[u8; 16], subkey: &[u8; 16]) {
+        self.line(&format!("round {} {}", hex(columns), hex(subkey)));
+    }
+
     /// A digest length of the family in whole bytes.
     pub fn m_of(&mut self, family: Family) -> u16 {
         let step = 8 * (1 + self.random.below(32) as u16);
@@ -127,6 +131,7 @@ pub fn text() -> String {
     cases_records::write(&mut w);
     cases_bits::write(&mut w);
     cases_places::write(&mut w);
+    cases_round::write(&mut w);
     w.text
 }
 

@@ -162,6 +162,15 @@ pub fn aes_round(columns: [u32; 4], subkey: [u32; 4]) -> [u32; 4] {
     after
 }
 
+/// The same round on 16 bytes, column by column, row 0 first.
+pub fn aes_round_of_bytes(state: &[u8; 16], subkey: &[u8; 16]) -> [u8; 16] {
+    let columns = |bytes: &[u8; 16]| {
+        std::array::from_fn(|j| u32::from_be_bytes(std::array::from_fn(|r| bytes[4 * j + r])))
+    };
+    let after = aes_round(columns(state), columns(subkey)).map(u32::to_be_bytes);
+    std::array::from_fn(|place| after[place / 4][place % 4])
+}
+
 fn four(words: &[u32]) -> [u32; 4] {
     [words[0], words[1], words[2], words[3]]
 }

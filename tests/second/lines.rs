@@ -1,9 +1,10 @@
 //! The line format of case files: writing states, reading lines, answering them.
 
 use crate::digest::{add, begin, finish, one_shot, LastBits, Report, State};
-use crate::hash::Family;
+use crate::hash::{aes_round_of_bytes, Family};
 use crate::log::check;
 use crate::saved::{load, save};
+use crate::tables::Tables;
 use crate::write::{write_log, Lent};
 
 /// Most bytes of a line, its end not counted: 1,024 events and a buffer for the longest log fit in.
@@ -98,6 +99,7 @@ fn answer(line: &[u8], state: &mut State) -> Option<String> {
         ["oneshot", ref parts @ ..] => answer_one_shot(parts),
         ["check", log, buffer] => answer_check(&bytes(log)?, bytes(buffer)?),
         ["write", ref parts @ ..] => answer_write(parts),
+        ["round", columns, subkey] => Some(answer_round(&exact(columns)?, &exact(subkey)?)),
         _ => None,
     }
 }
@@ -132,6 +134,13 @@ fn answer_write(words: &[&str]) -> Option<String> {
     let (claims, mut buffer) = (wish(claims)?, bytes(buffer)?);
     let (number, length) = write_log(&Lent { salt, registers, events, claims }, &mut buffer);
     Some(format!("write {number} {length} {}", hex(&buffer)))
+}
+
+/// The round by bytes and, computed apart, over the tables.
+fn answer_round(columns: &[u8; 16], subkey: &[u8; 16]) -> String {
+    let by_bytes = aes_round_of_bytes(columns, subkey);
+    let over_tables = Tables::computed().round(columns, subkey);
+    format!("round {} {}", hex(&by_bytes), hex(&over_tables))
 }
 
 /// The last bits that two words stand for, allowed or not.

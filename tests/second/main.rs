@@ -1,5 +1,5 @@
-//! A second, independent program for the SHAvite-3 digest, its saved states, the boot log check and
-//! the logger.
+//! A second, independent program for the SHAvite-3 digest, its saved states, the boot log check, the
+//! logger and the AES round over tables.
 
 mod bits;
 mod cases;
@@ -8,6 +8,7 @@ mod cases_log;
 mod cases_message;
 mod cases_places;
 mod cases_records;
+mod cases_round;
 mod cases_saved;
 mod cases_state;
 mod cases_write;
@@ -25,9 +26,11 @@ mod selftest;
 mod selftest_bits;
 mod selftest_places;
 mod selftest_records;
+mod selftest_round;
 mod selftest_write;
 mod stage;
 mod sum;
+mod tables;
 mod write;
 
 use std::io::{Error, ErrorKind, Read, Write};

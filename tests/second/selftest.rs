@@ -13,6 +13,7 @@ use crate::saved::{load, save};
 use crate::selftest_bits::bit_values;
 use crate::selftest_places::place_values;
 use crate::selftest_records::record_values;
+use crate::selftest_round::round_values;
 use crate::selftest_write::write_values;
 use crate::stage;
 use crate::sum;
@@ -141,6 +142,7 @@ pub fn run() -> (String, bool) {
     record_values(&mut tally);
     bit_values(&mut tally);
     place_values(&mut tally);
+    round_values(&mut tally);
     let mut text: String =
         tally.missed.iter().map(|label| format!("selftest: not met: {label}\n")).collect();
     text += &format!("selftest: {} values met\n", tally.met);

@@ -4,10 +4,10 @@ use mathlib.Core.Logic.{_≢_}
 use mathlib.Core.List.{List, [], _∷_, _++_}
 use Prim.Native.Nat.{ℕ, zero, suc, _+_, _≤_, _<_}
 use native.Mathlib.Nat.{add-zero}
-use native.Mathlib.Numerals.{add-one, add-two, add-three}
+use native.Mathlib.Numerals.{add-one, add-two, add-three, add-four}
 use native.Mathlib.Omega.{arith}
 use lib.ListN.{length, getD, set, take, drop, length-append, List·getD-append}
-use lib.Seq.{sets, sets-eq, length-take-le, getD-append-add, getD-set-other}
+use lib.Seq.{sets, drop-cons, drop-set-lt, sets-eq, length-take-le, getD-append-add, getD-set-other}
 use Rattle.words.specs.Words.{fourAt}
 
 pub four-of : (x : List ℕ) → length x ≡ 4 → (getD x 0 0 ∷ getD x 1 0 ∷ getD x 2 0 ∷ getD x 3 0 ∷ []) ≡ x
@@ -70,3 +70,29 @@ module _ (l x : List ℕ) (p : ℕ) (n : length x ≡ 4) where
   fours-kept q d =
       let at : (r : ℕ) → r < 4 → getD (sets l p x) (q + r) 0 ≡ getD l (q + r) 0 = λ r b. kept x l p (q + r) (λ t k. d t r (omega arith) b) in
       rw (rw (add-zero q) at (at 0 (omega arith)), at 1 (omega arith), at 2 (omega arith), at 3 (omega arith))
+
+-- four words off a list's front, and what a run of stores before it leaves of its end
+pub four-drop : (v : List ℕ) (i : ℕ) → i + 4 ≤ length v → drop i v ≡ fourAt v i ++ drop (i + 4) v
+unfolding fourAt
+four-drop v i h =
+    rw (add-one, add-two, add-three, add-four)
+    (drop-cons v i 0 (omega arith)
+    ∙ ap (λ (l : List ℕ). getD v i 0 ∷ l)
+    (drop-cons v (suc i) 0 (omega arith)
+    ∙ ap (λ (l : List ℕ). getD v (suc i) 0 ∷ l)
+    (drop-cons v (suc (suc i)) 0 (omega arith)
+    ∙ ap (λ (l : List ℕ). getD v (suc (suc i)) 0 ∷ l) (drop-cons v (suc (suc (suc i))) 0 (omega arith)))))
+
+pub drop-stores : (x l : List ℕ) (p n : ℕ) → p + length x ≤ n → drop n (sets l p x) ≡ drop n l
+drop-stores [] l p n h = refl
+drop-stores (a ∷ x) l p n h = drop-stores x (set l p a) (suc p) n (omega arith) ∙ drop-set-lt n l p a (omega arith)
+
+-- four words, and four behind four
+pub fours-joined : (x v : List ℕ) → length x ≡ 4 → (fourAt (x ++ v) 0 ≡ x) × (fourAt (x ++ v) 4 ≡ fourAt v 0)
+unfolding fourAt
+fours-joined [] v h = absurd (omega arith)
+fours-joined (a ∷ []) v h = absurd (omega arith)
+fours-joined (a ∷ b ∷ []) v h = absurd (omega arith)
+fours-joined (a ∷ b ∷ c ∷ []) v h = absurd (omega arith)
+fours-joined (a ∷ b ∷ c ∷ d ∷ []) v h = (refl, refl)
+fours-joined (a ∷ b ∷ c ∷ d ∷ e ∷ x) v h = absurd (omega arith)

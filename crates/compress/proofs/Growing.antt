@@ -4,18 +4,22 @@ use Prim.Native.Nat.{ℕ, zero, suc, _+_, _-_, _*_, _/_, _%_, _≤_, _<_}
 use native.Mathlib.Nat.{add-zero, add-assoc}
 use native.Mathlib.Numerals.{add-one}
 use native.Mathlib.Omega.{arith}
-use mathlib.Core.List.{List, [], _∷_, _++_}
+use mathlib.Core.List.{List, [], _∷_, _++_, append-assoc}
 use lib.ListN.{length, getD, set, take, drop, length-append}
-use lib.Seq.{take-suc-set, getD-take, length-take-le, set-at, sets, sets-eq, take-at, take-all, drop-cons, append-snoc}
-use lib.Bits.{bitXor}
+use lib.Seq.{take-suc-set, getD-take, length-take-le, length-sets, set-at, sets, sets-eq, take-at, take-all, drop-cons, append-snoc}
+use native.Mathlib.Decide.{ℕ-discrete}
+use mathlib.Core.Bool.{cond}
+use lib.Dec.{eqb}
+use lib.Bits.{bitXor, xor-zero-r}
 use borrow.Author.Tests.{eq-eqb, ne-eqb}
-use Rattle.words.specs.Words.{times, fourAt, wordAt, wordsOf, zero4}
+use Rattle.words.specs.Words.{times, fourAt, wordAt, wordsOf, xor4, zero4}
 use Rattle.family.specs.declared.Family.{Family}
 use Rattle.family.specs.declared.Family.the-variants.{Small, Large}
 use Rattle.counter.specs.declared.Counter.{Counter}
 use Rattle.family.specs.Family.{blockWords, nearDistance, saltQuads, runs, expandedWords}
 use Rattle.family.proofs.Numbers.{numbers}
-use Rattle.compress.specs.Expansion.{back, places, enters, countsOf, tapsOf, lastOf, groupOf, linearOf, linearRun, nonlinearRun, runOf, expandOf}
+use Rattle.compress.proofs.Fours.{four-of}
+use Rattle.compress.specs.Expansion.{back, places, enters, countsOf, enteredOf, tapsOf, lastOf, groupOf, linearOf, linearRun, nonlinearRun, runOf, expandOf}
 
 pub times-more : {A : Type 0} (n : ℕ) (f : ℕ → A → A) (s : A) → times (n + 1) f s ≡ f n (times n f s)
 unfolding times
@@ -51,6 +55,21 @@ pub put-four : (l x : List ℕ) (i : ℕ) → length x ≡ 4 → i + 4 ≤ lengt
 put-four l x i e h =
     let n : length (take i l ++ x) ≡ i + 4 = rw (length-append, length-take-le i l (omega arith), e) in
     rw (sets-eq x l i (omega arith)) (take-at (take i l ++ x) (drop (i + length x) l) (i + 4) n)
+
+-- four times four stores are all of sixteen words
+pub stores-sixteen : (l a b c d : List ℕ) → length l ≡ 16 → length a ≡ 4 → length b ≡ 4 → length c ≡ 4 → length d ≡ 4
+    → sets (sets (sets (sets l 0 a) 4 b) 8 c) 12 d ≡ a ++ (b ++ (c ++ d))
+stores-sixteen l a b c d n ha hb hc hd =
+    let l1 = sets l 0 a in
+    let l2 = sets l1 4 b in
+    let l3 = sets l2 8 c in
+    let n1 : length l1 ≡ 16 = length-sets l 0 a ∙ n in
+    let n2 : length l2 ≡ 16 = length-sets l1 4 b ∙ n1 in
+    let n3 : length l3 ≡ 16 = length-sets l2 8 c ∙ n2 in
+    let n4 : length (sets l3 12 d) ≡ 16 = length-sets l3 12 d ∙ n3 in
+    let two = put-four l1 b 4 hb (omega arith) ∙ ap (λ (u : List ℕ). u ++ b) (put-four l a 0 ha (omega arith)) in
+    let three = put-four l2 c 8 hc (omega arith) ∙ ap (λ (u : List ℕ). u ++ c) two in
+    sym (take-all 16 (sets l3 12 d) (omega arith)) ∙ put-four l3 d 12 hd (omega arith) ∙ ap (λ (u : List ℕ). u ++ d) three ∙ append-assoc (a ++ b) c d ∙ append-assoc a b (c ++ d)
 
 -- ---- words read back from an array that is filled up to i
 pub back-take : (w : List ℕ) (i d : ℕ) → i ≤ length w → 0 < d → d ≤ i → getD w (i - d) 0 ≡ back (take i w) d
@@ -96,6 +115,23 @@ unfolding countsOf
 counts-none ps i m a =
     let n : enters ps i ≡ 0 = rw add-zero at (enters-none ps i 0 m (omega arith) a) in
     rw (n, enters-none ps i 1 m (omega arith) a, enters-none ps i 2 m (omega arith) a, enters-none ps i 3 m (omega arith) a)
+
+pub xor-none : (x : List ℕ) → length x ≡ 4 → xor4 x zero4 ≡ x
+unfolding xor4
+xor-none x h = rw (xor-zero-r (getD x 0 0), xor-zero-r (getD x 1 0), xor-zero-r (getD x 2 0), xor-zero-r (getD x 3 0)) (four-of x h)
+
+-- a group's words as the code has them
+pub entered-group : (f : Family) (c : Counter) (i : ℕ) (x : List ℕ) → i % 4 ≡ 0 → enteredOf f c i x ≡ xor4 x (countsOf (places f c) i)
+unfolding enteredOf
+entered-group f c i x e = rw (eq-eqb (i % 4) 0 e)
+
+pub entered-none : (f : Family) (c : Counter) (i : ℕ) (x : List ℕ) → length x ≡ 4 → Apart (places f c) i → x ≡ enteredOf f c i x
+unfolding enteredOf
+entered-none f c i x h a = go (ℕ-discrete (i % 4) 0)
+  where
+    go : Dec (i % 4 ≡ 0) → x ≡ cond (eqb (i % 4) 0) (xor4 x (countsOf (places f c) i)) x
+    go (yes e) = rw (eq-eqb (i % 4) 0 e, ← counts-none (places f c) i e a) (sym (xor-none x h))
+    go (no e) = rw (ne-eqb (i % 4) 0 e)
 
 -- ---- a turn of each loop
 module _ (n near : ℕ) (v w : List ℕ) (i k : ℕ) (h : i + k < length v) (hn : 0 < n) (n≤ : n ≤ i + k) (hm : 0 < near) (m≤ : near ≤ i + k)

@@ -5,3 +5,4 @@ pub mod Compressed
 pub mod Grown
 pub mod Sixteen
 pub mod Windowed
+pub mod Runs

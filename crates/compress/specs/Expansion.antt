@@ -51,6 +51,10 @@ countsOf ps i = enters ps i ∷ enters ps (i + 1) ∷ enters ps (i + 2) ∷ ente
 unfoldable pub groupOf : ℕ → List (ℕ × ℕ) → List ℕ → List ℕ → List ℕ
 groupOf n ps salt4 w = xor4 (xor4 (roundOf (xor4 (tapsOf n w) salt4) zero4) (lastOf w)) (countsOf ps (length w))
 
+-- what a group's words become where the counter enters: the code's form of the last step, for any place. No group begins where i is no multiple of 4.
+unfoldable pub enteredOf : Family → Counter → ℕ → List ℕ → List ℕ
+enteredOf f c i x = cond (eqb (i % 4) 0) (xor4 x (countsOf (places f c) i)) x
+
 -- Groups use salt words 0 to 3 and 4 to 7 in turn (large: the salt runs in four quarters).
 unfoldable pub nonlinearRun : ℕ → ℕ → List (ℕ × ℕ) → List ℕ → ℕ → List ℕ → List ℕ
 nonlinearRun n quads ps salt groups = times groups (λ k w. w ++ groupOf n ps (fourAt salt (4 * (k % quads))) w)

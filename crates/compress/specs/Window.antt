@@ -2,8 +2,8 @@
 -- public ones needs none of it.
 use Prim.Native.Nat.{ℕ, zero, suc, _+_, _-_, _*_, _%_, _≤_, _<_}
 use mathlib.Core.Path.{_≡_}
-use mathlib.Core.List.{List, [], _∷_}
-use lib.ListN.{getD}
+use mathlib.Core.List.{List, [], _∷_, _++_}
+use lib.ListN.{getD, drop}
 use lib.Bits.{bitXor}
 use Rattle.family.specs.declared.Family.the-variants.{Small}
 use Rattle.family.specs.Family.{blockWords, chainWords}
@@ -43,6 +43,10 @@ stepOf (suc j) x y key = roundOf y key
 unfoldable pub stepsOf : ℕ → List ℕ → ℕ → List ℕ → List ℕ
 stepsOf zero w i x = zero4
 stepsOf (suc j) w i x = stepOf j x (stepsOf j w i x) (fourAt w (i + 4 * j))
+
+-- what the cipher leaves where the chain stood: its two halves, and the words past them as they were
+abbrev pub halvesIn : Halves → List ℕ → List ℕ
+halvesIn s h = s .left ++ (s .right ++ drop (chainWords Small) h)
 
 -- the two halves in their place in the chain, before the round whose first word is i
 abbrev pub halvesAt : ℕ → List ℕ → Halves

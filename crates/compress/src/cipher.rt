@@ -1,19 +1,18 @@
-// The two ciphers: the small one over a window of words, the large one on all of them.
+// What the two ciphers are defined over, and the small one over a window of words.
 ghost use mathlib.Core.Path.{_≡_};
 ghost use Prim.Native.Nat.{_+_, _*_, _%_, _≤_};
 ghost use lib.ListN.{length};
-ghost use Rattle.family.specs.declared.Family.the-variants.{Small, Large};
+ghost use Rattle.family.specs.declared.Family.the-variants.{Small};
 ghost use Rattle.family.specs.Family.{blockWords, expandedWords};
 ghost use Rattle.words.specs.Words.{fourAt};
-ghost use Rattle.compress.specs.Cipher.{innerOf, smallCipher, largeCipher};
-ghost use Rattle.compress.specs.Window.{smallWords, Holds, stepOf, halvesAt};
+ghost use Rattle.compress.specs.Cipher.{innerOf, smallCipher};
+ghost use Rattle.compress.specs.Window.{smallWords, Holds, stepOf, halvesIn};
 use crate::quads;
 use crate::window;
 use counter::Counter;
-use family::LargeFamily;
 use family::SmallFamily;
 
-// What the small cipher is defined over. The code has the two halves in the chain's own place.
+// The code has halves and quarters in the chain's own place.
 pub struct Halves {
     pub left: [u32; 4],
     pub right: [u32; 4],
@@ -24,21 +23,6 @@ pub struct Quarters {
     pub a: [u32; 4],
     pub b: [u32; 4],
     pub r: [u32; 4],
-}
-
-// F: whitening, a round under each subkey, and a round under zero.
-fn inner(keys: usize, w: &[u32], i: usize, x: [u32; 4]) -> [u32; 4]
-    requires { ⌜ (i + 4 + 4 * keys ≤ length (now w)) × (length (now w) ≤ expandedWords Large) ⌝ }
-    ensures { λ r. ⌜ r ≡ innerOf keys (now (w .entry)) i x ⌝ }
-{
-    let mut y = words::xored(x, quads::quad(w, i));
-    let mut j: usize = 0;
-    while j < keys {
-        let next = words::aes_round(y, quads::quad(w, i + 4 + 4 * j));
-        y = next;
-        j += 1;
-    }
-    words::aes_round(y, [0, 0, 0, 0])
 }
 
 // F's step j: the whitening of the half at `from`, or a round.
@@ -79,9 +63,8 @@ fn inner_small(
 
 // The small cipher on the chain's halves in their place: the round whose first word is i changes the half at i % 8 (the chain's
 // words), so that the two change sides by themselves.
-pub(crate) fn small(h: &mut [u32; 16], block: &[u8; 128], c: Counter, salt: &[u8; 64])
-    requires { ⌜ (length (now h) ≡ 16) × (length (now block) ≡ 128) × (length (now salt) ≡ 64) ⌝ }
-    ensures { λ _. ⌜ halvesAt 0 (now (h .exit)) ≡ smallCipher (smallWords (now (block .entry)) c (now (salt .entry))) (now (h .entry)) ⌝ }
+pub fn small(h: &mut [u32; 16], block: &[u8; 128], c: Counter, salt: &[u8; 64])
+    ensures { λ _. ⌜ now (h .exit) ≡ halvesIn (smallCipher (smallWords (now (block .entry)) c (now (salt .entry))) (now (h .entry))) (now (h .entry)) ⌝ }
 {
     let mut w = [0u32; SmallFamily::BLOCK_WORDS];
     let mut i: usize = 0;
@@ -91,32 +74,5 @@ pub(crate) fn small(h: &mut [u32; 16], block: &[u8; 128], c: Counter, salt: &[u8
         let crossed = words::xored(quads::quad(&*h, to), x);
         quads::put(h, to, crossed);
         i += 12;
-    }
-}
-
-// The large cipher, on expanded words.
-pub(crate) fn large(w: &[u32], chain: &[u32]) -> Quarters
-    requires { ⌜ (length (now w) ≡ expandedWords Large) × (length (now chain) ≡ 16) ⌝ }
-    ensures { λ r. ⌜ r ≡ largeCipher (now (w .entry)) (now (chain .entry)) ⌝ }
-{
-    let mut l = quads::quad(chain, 0);
-    let mut a = quads::quad(chain, 4);
-    let mut b = quads::quad(chain, 8);
-    let mut r = quads::quad(chain, 12);
-    let mut k: usize = 0;
-    while k < LargeFamily::ROUNDS {
-        let next_a = words::xored(l, inner(3, w, 32 * k, a));
-        let next_r = words::xored(b, inner(3, w, 32 * k + 16, r));
-        l = r;
-        b = a;
-        a = next_a;
-        r = next_r;
-        k += 1;
-    }
-    Quarters {
-        l: l,
-        a: a,
-        b: b,
-        r: r,
     }
 }

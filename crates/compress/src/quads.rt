@@ -1,10 +1,10 @@
 // Words from bytes, and four words of a list.
 ghost use mathlib.Core.Path.{_≡_};
-ghost use mathlib.Core.List.{[], _∷_, _++_};
+ghost use mathlib.Core.List.{[], _∷_};
 ghost use Prim.Native.Nat.{_+_, _*_, _≤_};
-ghost use lib.ListN.{length, drop};
+ghost use lib.ListN.{length};
 ghost use lib.Seq.{sets};
-ghost use Rattle.words.specs.Words.{wordAt, wordsOf, fourAt};
+ghost use Rattle.words.specs.Words.{wordAt, fourAt};
 
 fn word_of(bytes: &[u8], j: usize) -> u32
     requires { ⌜ 4 * j + 4 ≤ length (now bytes) ⌝ }
@@ -16,18 +16,6 @@ fn word_of(bytes: &[u8], j: usize) -> u32
         bytes[4 * j + 2],
         bytes[4 * j + 3],
     )
-}
-
-// The first n words of `bytes`, put at the front of `w`.
-pub(crate) fn load(w: &mut [u32], bytes: &[u8], n: usize)
-    requires { ⌜ (n ≤ length (now w)) × (4 * n ≤ length (now bytes)) ⌝ }
-    ensures { λ _. ⌜ now (w .exit) ≡ wordsOf n (now (bytes .entry)) ++ drop n (now (w .entry)) ⌝ }
-{
-    let mut j = 0;
-    while j < n {
-        w[j] = word_of(bytes, j);
-        j += 1;
-    }
 }
 
 // Four words of `bytes`, from word j.

@@ -8,7 +8,7 @@ ghost use Rattle.family.specs.Family.{blockWords, saltQuads, expandedWords};
 ghost use Rattle.words.specs.Words.{fourAt, wordsOf};
 ghost use Rattle.compress.specs.Expansion.{places, countsOf};
 ghost use Rattle.compress.specs.Window.{smallWords, Holds, tapsFrom, nonlinearFrom, linearFrom};
-use crate::expansion;
+use crate::entering::entered;
 use crate::quads;
 use counter::Counter;
 use family::Family;
@@ -38,10 +38,7 @@ fn nonlinear(w: &[u32], i: usize, c: Counter, salt: &[u8]) -> [u32; 4]
     );
     let mixed = words::aes_round(salted, [0, 0, 0, 0]);
     let last = quads::quad(w, place(i - 4));
-    words::xored(
-        words::xored(mixed, last),
-        expansion::counts(Family::Small, i, c),
-    )
+    entered(Family::Small, i, c, words::xored(mixed, last))
 }
 
 // Four linear words, from the four sixteen back and the four before.

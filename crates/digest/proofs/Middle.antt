@@ -1,18 +1,17 @@
 -- The middle of an absorption: what the code's locals hold after some of the bytes.
 use mathlib.Core.Path.{_≡_, refl, ap, sym, _∙_}
 use mathlib.Core.List.{List, [], _++_, append-assoc, append-nil}
-use Prim.Native.Nat.{ℕ, suc, _+_, _-_, _*_, _/_, _%_, _^_, _≤_, _<_}
+use Prim.Native.Nat.{ℕ, suc, _+_, _-_, _*_, _/_, _%_, _≤_, _<_}
 use native.Mathlib.Omega.{arith}
-use native.Mathlib.Nat.{div-eq-of-lt-le, le-mul-of-pos-right, lt-of-lt-of-le}
-use lib.Dec.{lit≤}
+use native.Mathlib.Nat.{div-eq-of-lt-le, mul-div-cancel, le-mul-of-pos-right}
 use lib.ListN.{length, take, drop, replicate, length-append, length-take, length-drop, drop-of-length-le}
 use lib.Seq.{sets, drop-append-le, length-take-le, take-all, take-add}
 use Rattle.counter.specs.declared.Counter.{Counter}
 use Rattle.family.specs.Family.{blockBytes}
 use Rattle.counter.specs.Counter.{numberOf, counterOf}
 use Rattle.compress.specs.Compression.{compressOf}
+use Rattle.compress.specs.Run.{runOver}
 use Rattle.compress.proofs.Compressed.{compress-block}
-use Rattle.counter.proofs.Counting.{counter-number}
 use Rattle.state.specs.declared.State.{State}
 use Rattle.state.specs.Bytes.{fill}
 use Rattle.finishing.specs.Blocks.{wholeBlocks, chainOver}
@@ -21,7 +20,8 @@ use Rattle.finishing.specs.Finish.{heldOf}
 use Rattle.digest.specs.Running.{absorbed}
 use Rattle.family.proofs.Sizes.{block-pos, block-max}
 use Rattle.state.proofs.Filling.{fill-nil, fill-take}
-use Rattle.finishing.proofs.Blocking.{wholeBlocks-more, wholeBlocks-last, chainOver-last}
+use Rattle.finishing.proofs.Blocking.{wholeBlocks-more, wholeBlocks-add, wholeBlocks-last, chainOver-append, chainOver-last}
+use Rattle.finishing.proofs.Running.{next-counter, run-chain}
 use Rattle.state.proofs.Soundness.{Sound}
 use Rattle.finishing.proofs.Held.{fill-puts, held-length, held-filled}
 
@@ -66,7 +66,7 @@ module _ (s : State) (ok : Sound s) (full : length (s .held) ≡ 128) where
     pub compressed-max : compressed ≤ s .covered .0 + length xs
     compressed-max = omega (arith, m .compressed-is, bytes-done, le-mul-of-pos-right (s .compressed + m .n) (block-pos (s .family)))
 
-    module _ (ys : List ℕ) (fits : rest + length ys ≤ b) where
+    module _ (ys : List ℕ) where
       abbrev p : List ℕ
       p = heldOf s ++ (xs ++ ys)
 
@@ -78,56 +78,86 @@ module _ (s : State) (ok : Sound s) (full : length (s .held) ≡ 128) where
           let e = m .size in
           simp length-drop (omega arith)
 
+      length-more : length p ≡ m .n * b + rest + length ys
+      length-more = omega (arith, length-so-far (xs ++ ys), length-so-far xs, length-append xs ys, m .size)
+
       joined : p ≡ (heldOf s ++ xs) ++ ys
       joined = sym (append-assoc (heldOf s) xs ys)
 
       tail-more : drop (m .n * b) p ≡ tail ++ ys
       tail-more = rw joined (drop-append-le (m .n * b) (heldOf s ++ xs) ys (omega (arith, m .size)))
 
-      held-more : sets held rest ys ≡ fill 128 (tail ++ ys)
-      held-more =
-          ap (λ (l : List ℕ). sets l rest ys) (m .held-is)
-          ∙ (rw tail-length at (fill-puts 128 ys tail (omega (arith, tail-length, block-max (s .family)))))
-
       chain-more : chain ≡ chainOver (s .family) (s .salt) (wholeBlocks (m .n) b (s .compressed * b) p) (s .chain)
       chain-more = rw (joined, wholeBlocks-more (m .n) b (s .compressed * b) (heldOf s ++ xs) ys (omega (arith, m .size))) (m .chain-is)
 
-      pub mid-more : rest + length ys < b → Mid s (xs ++ ys) chain compressed (sets held rest ys) (rest + length ys) counter
-      mid-more h = record {
-        n = m .n;
-        size = omega (arith, length-so-far (xs ++ ys), length-so-far xs, length-append xs ys, m .size);
-        small = h;
-        chain-is = chain-more;
-        compressed-is = m .compressed-is;
-        held-is = held-more ∙ ap (fill 128) (sym tail-more);
-        counter-is = m .counter-is;
-      }
+      module _ (fits : rest + length ys ≤ b) where
+        held-more : sets held rest ys ≡ fill 128 (tail ++ ys)
+        held-more =
+            ap (λ (l : List ℕ). sets l rest ys) (m .held-is)
+            ∙ (rw tail-length at (fill-puts 128 ys tail (omega (arith, tail-length, block-max (s .family)))))
 
-      module _ (h : rest + length ys ≡ b) (room : s .covered .0 + length xs ≤ limit) where
-        block : take b (sets held rest ys) ≡ take b (drop (m .n * b) p)
-        block =
-            let e : length (tail ++ ys) ≡ b = omega (arith, length-append tail ys, tail-length) in
-            ap (take b) held-more ∙ fill-take 128 (tail ++ ys) b e ∙ sym (ap (take b) tail-more ∙ take-all b (tail ++ ys) (omega (arith, e)))
+        pub mid-more : rest + length ys < b → Mid s (xs ++ ys) chain compressed (sets held rest ys) (rest + length ys) counter
+        mid-more h = record {
+          n = m .n;
+          size = omega (arith, length-more);
+          small = h;
+          chain-is = chain-more;
+          compressed-is = m .compressed-is;
+          held-is = held-more ∙ ap (fill 128) (sym tail-more);
+          counter-is = m .counter-is;
+        }
 
-        advanced : counterOf (numberOf counter + 8 * b) ≡ counterOf (8 * (s .compressed * b + suc (m .n) * b))
-        advanced =
-            let k = 8 * (s .compressed * b + m .n * b) in
-            let small : k < 2 ^ 64 = omega (arith, bytes-done) in
-            let e : k + 8 * b ≡ 8 * (s .compressed * b + suc (m .n) * b) = omega arith in
-            rw (m .counter-is, counter-number k (lt-of-lt-of-le small (lit≤ {m = 2 ^ 64} {n = 2 ^ 128} tt)), e)
+        module _ (h : rest + length ys ≡ b) (room : s .covered .0 + length xs ≤ limit) where
+          block : take b (sets held rest ys) ≡ take b (drop (m .n * b) p)
+          block =
+              let e : length (tail ++ ys) ≡ b = omega (arith, length-append tail ys, tail-length) in
+              ap (take b) held-more ∙ fill-take 128 (tail ++ ys) b e ∙ sym (ap (take b) tail-more ∙ take-all b (tail ++ ys) (omega (arith, e)))
 
-        pub mid-block : Mid s (xs ++ ys) (compressOf (s .family) chain (sets held rest ys) (counterOf (numberOf counter + 8 * b)) (s .salt)) (compressed + 1) (replicate 128 0) 0 (counterOf (numberOf counter + 8 * b))
-        mid-block =
-            let size : length p ≡ suc (m .n) * b + 0 = omega (arith, length-so-far (xs ++ ys), length-so-far xs, length-append xs ys, m .size) in
+          advanced : counterOf (numberOf counter + 8 * b) ≡ counterOf (8 * (s .compressed * b + suc (m .n) * b))
+          advanced =
+              let e : s .compressed * b + m .n * b + b ≡ s .compressed * b + suc (m .n) * b = omega arith in
+              rw (m .counter-is, next-counter (s .compressed * b + m .n * b) b (omega (arith, bytes-done)), e)
+
+          pub mid-block : Mid s (xs ++ ys) (compressOf (s .family) chain (sets held rest ys) (counterOf (numberOf counter + 8 * b)) (s .salt)) (compressed + 1) (replicate 128 0) 0 (counterOf (numberOf counter + 8 * b))
+          mid-block =
+              let size : length p ≡ suc (m .n) * b = omega (arith, length-more) in
+              record {
+                n = suc (m .n);
+                size = omega (arith, size);
+                small = block-pos (s .family);
+                chain-is =
+                    rw (← compress-block, block, advanced, wholeBlocks-last (m .n) b (s .compressed * b) p, chainOver-last, ← chain-more);
+                compressed-is = omega (arith, m .compressed-is);
+                held-is = sym (ap (fill 128) (drop-of-length-le p {i = suc (m .n) * b} (omega (arith, size))) ∙ fill-nil 128);
+                counter-is = advanced;
+              }
+
+      -- whole blocks behind no held byte
+      module _ (k : ℕ) (h : length ys ≡ k * b) (none : rest ≡ 0) (room : s .covered .0 + length (xs ++ ys) ≤ limit) where
+        tail-none : tail ≡ []
+        tail-none = drop-of-length-le (heldOf s ++ xs) {i = m .n * b} (omega (arith, m .size))
+
+        covered-more : s .covered .0 + length (xs ++ ys) ≡ s .compressed * b + (m .n + k) * b
+        covered-more = omega (arith, bytes-done, length-append xs ys)
+
+        run : runOver (s .family) (s .salt) k (counterOf (numberOf counter + 8 * b)) ys chain
+            ≡ chainOver (s .family) (s .salt) (wholeBlocks (m .n + k) b (s .compressed * b) p) (s .chain)
+        run =
+            let done = s .compressed * b + m .n * b in
+            rw (m .counter-is, next-counter done b (omega (arith, covered-more)), wholeBlocks-add (m .n) k b (s .compressed * b) p, chainOver-append, ← chain-more, tail-more, tail-none)
+            (run-chain (s .family) (s .salt) k done ys chain (omega (arith, covered-more)))
+
+        pub mid-run : Mid s (xs ++ ys) (runOver (s .family) (s .salt) k (counterOf (numberOf counter + 8 * b)) ys chain) (compressed + k) held rest (counterOf (8 * (s .covered .0 + length (xs ++ ys))))
+        mid-run =
+            let size : length p ≡ (m .n + k) * b = omega (arith, length-more) in
             record {
-              n = suc (m .n);
-              size = size;
-              small = block-pos (s .family);
-              chain-is =
-                  rw (← compress-block, block, advanced, wholeBlocks-last (m .n) b (s .compressed * b) p, chainOver-last, ← chain-more);
+              n = m .n + k;
+              size = omega (arith, size);
+              small = m .small;
+              chain-is = run;
               compressed-is = omega (arith, m .compressed-is);
-              held-is = sym (ap (fill 128) (drop-of-length-le p {i = suc (m .n) * b} (omega (arith, size))) ∙ fill-nil 128);
-              counter-is = advanced;
+              held-is = m .held-is ∙ ap (fill 128) (tail-none ∙ sym (drop-of-length-le p {i = (m .n + k) * b} (omega (arith, size))));
+              counter-is = rw covered-more;
             }
 
     pub mid-end : _≡_ {A = State} (record { family = s .family; m = s .m; salt = s .salt; chain = chain; covered = record { 0 = s .covered .0 + length xs }; compressed = compressed; held = held }) (absorbed s xs)
@@ -149,3 +179,17 @@ module _ (s : State) (ok : Sound s) (full : length (s .held) ≡ 128) where
         → next ≡ compressOf (s .family) chain more reached (s .salt) → Mid s (take (i + count) d) next (compressed + 1) (replicate 128 0) 0 reached
     next-block h room q r =
         rw (r, q, e, stored, take-add i count d) (mid-block m (take count (drop i d)) (omega (arith, got)) (omega (arith, got)) (omega (arith, length-take i d)))
+
+  -- or n whole blocks of d from i on
+  pub next-run : (d : List ℕ) (i n : ℕ) {chain : List ℕ} {compressed : ℕ} {held : List ℕ} {rest : ℕ} {counter : Counter} → Mid s (take i d) chain compressed held rest counter
+      → rest ≡ 0 → s .covered .0 + length d ≤ limit → {size : ℕ} → size ≡ b → i + n * size ≤ length d → {next : Counter} → next ≡ counterOf (numberOf counter + 8 * size) → {after : List ℕ}
+      → after ≡ runOver (s .family) (s .salt) (length (take (i + n * size - i) (drop i d)) / b) next (take (i + n * size - i) (drop i d)) chain → {reached : Counter}
+      → reached ≡ counterOf (8 * (s .covered .0 + (i + n * size))) → Mid s (take (i + n * size) d) after (compressed + n) held rest reached
+  next-run d i n m none room e within q r t =
+      let w : i + n * b ≤ length d = rw e at within in
+      let k : i + n * b - i ≡ n * b = omega arith in
+      let ys = take (n * b) (drop i d) in
+      let got : length ys ≡ n * b = length-take-le (n * b) (drop i d) (omega (arith, length-drop i d)) in
+      let count : length ys / b ≡ n = rw got (mul-div-cancel n (block-pos (s .family))) in
+      let whole : length (take i d ++ ys) ≡ i + n * b = omega (arith, length-append (take i d) ys, length-take i d) in
+      rw (t, r, q, e, k, count, take-add i (n * b) d) (rw whole at (mid-run m ys n got none (omega (arith, whole))))

@@ -1,9 +1,10 @@
--- What the salt's test says.
+-- What the salt's test says, and what is known of blocks that are taken at once.
 use mathlib.Core.Path.{_≡_, refl}
-use mathlib.Core.Bool.{Bool, true, false, _||_}
+use mathlib.Core.Bool.{Bool, true, false, cond, _||_}
 use mathlib.Core.List.{List}
-use Prim.Native.Nat.{ℕ, _≤_}
+use Prim.Native.Nat.{ℕ, _*_, _/_, _≤_, _<_}
 use native.Mathlib.Omega.{arith}
+use native.Mathlib.Nat.{div-mul-le-self}
 use lib.Dec.{eqb}
 use lib.ListN.{length}
 use borrow.Author.Tests.{eqb-true, eq-eqb, ne-eqb}
@@ -26,3 +27,11 @@ salt-size f salt h = by (eqb (length salt) 0) refl h
     by : (t : Bool) → eqb (length salt) 0 ≡ t → (t || eqb (length salt) (saltBytes f)) ≡ true → length salt ≤ saltBytes f
     by true e h = omega (arith, eqb-true (length salt) 0 e)
     by false e h = omega (arith, eqb-true (length salt) (saltBytes f) h)
+
+pub once : (form : Bool) (rest left size : ℕ) {n : ℕ} → n ≡ cond form (cond (eqb rest 0) (left / size) 0) 0 → 0 < n → (rest ≡ 0) × (n * size ≤ left)
+once false rest left size e h = absurd (omega arith)
+once true rest left size e h = by (eqb rest 0) refl e h
+  where
+    by : (t : Bool) → eqb rest 0 ≡ t → {n : ℕ} → n ≡ cond t (left / size) 0 → 0 < n → (rest ≡ 0) × (n * size ≤ left)
+    by true e q h = (eqb-true rest 0 e, rw q (div-mul-le-self left size))
+    by false e q h = absurd (omega arith)

@@ -1,8 +1,9 @@
 // Begin, add and one-shot. Each tests in the documents' order, and a refusal changes nothing.
 ghost use mathlib.Core.Path.{_≡_};
-ghost use mathlib.Core.Bool.{true};
+ghost use mathlib.Core.Bool.{true, cond};
 ghost use mathlib.Core.List.{[]};
-ghost use Prim.Native.Nat.{_+_, _≤_, min};
+ghost use Prim.Native.Nat.{_+_, _/_, _≤_, _<_, min};
+ghost use lib.Dec.{eqb};
 ghost use lib.ListN.{length};
 ghost use Rattle.bits.specs.Message.{messageOf};
 ghost use Rattle.state.specs.State.{limit, consistentOf};
@@ -34,12 +35,12 @@ fn salt_fits(family: Family, salt: &[u8]) -> bool
 }
 
 // The state at the start, for an m that is allowed and a salt that fits.
-fn started(m: u16, salt: &[u8]) -> State
+fn started(form: bool, m: u16, salt: &[u8]) -> State
     requires { ⌜ length (now salt) ≤ 64 ⌝ }
     ensures { λ r. ⌜ r ≡ stateOf m (now (salt .entry)) [] ⌝ }
 {
     let family = Family::of(m);
-    let chain = startup::starting_value(family, m);
+    let chain = startup::starting_value(form, family, m);
     let filled = bytes::fill_salt(salt);
     State {
         family: family,
@@ -53,7 +54,7 @@ fn started(m: u16, salt: &[u8]) -> State
 }
 
 // Starts a digest of m bits. The salt is empty or of the family's size.
-pub fn begin(m: u16, salt: &[u8]) -> Step
+pub fn begin(form: bool, m: u16, salt: &[u8]) -> Step
     ensures { λ r. ⌜ r ≡ beginOf m (now (salt .entry)) ⌝ }
 {
     if !state::is_allowed(m) {
@@ -70,7 +71,7 @@ pub fn begin(m: u16, salt: &[u8]) -> Step
     }
     Step {
         answer: Answer::Accepted,
-        state: started(m, salt),
+        state: started(form, m, salt),
     }
 }
 
@@ -87,8 +88,23 @@ fn reach(covered: Length, more: usize) -> u64
     covered.0 + more as u64
 }
 
-// Takes the bytes in, a part of a block at a time.
-fn absorb(state: State, bytes: &[u8]) -> State
+// How many whole blocks are taken at once: by the tables all that stand behind no held byte, and byte by byte none, since one at a time
+// costs a loader less stack.
+fn at_once(form: bool, rest: usize, left: usize, size: usize) -> usize
+    requires { ⌜ 0 < size ⌝ }
+    ensures { λ r. ⌜ r ≡ cond form (cond (eqb rest 0) (left / size) 0) 0 ⌝ }
+{
+    if !form {
+        return 0;
+    }
+    if rest > 0 {
+        return 0;
+    }
+    left / size
+}
+
+// Takes the bytes in: a part of a block at a time, or the whole blocks that can be taken at once.
+fn absorb(form: bool, state: State, bytes: &[u8]) -> State
     requires { ⌜ (consistentOf state ≡ true) × (state .covered .0 + length (now bytes) ≤ limit) ⌝ }
     ensures { λ r. ⌜ r ≡ absorbed state (now (bytes .entry)) ⌝ }
 {
@@ -104,19 +120,28 @@ fn absorb(state: State, bytes: &[u8]) -> State
     let bits = (8 * size) as u32;
     let mut i = 0;
     while i < bytes.len() {
-        let count = least(size - rest, bytes.len() - i);
-        let more = bytes::take_in(held, rest, bytes, i, count);
-        held = more;
-        rest += count;
-        i += count;
-        if rest == size {
-            let reached = counter.advance(bits);
-            let next = compress::compress(family, chain, held, reached, salt);
-            counter = reached;
-            chain = next;
-            compressed += 1;
-            held = [0u8; 128];
-            rest = 0;
+        let n = at_once(form, rest, bytes.len() - i, size);
+        if n > 0 {
+            let end = i + n * size;
+            let next = counter.advance(bits);
+            expanded::run_by_tables(family, &mut chain, &bytes[i..end], next, &salt);
+            counter = Counter::of(8 * (covered.0 + end as u64));
+            compressed += n as u64;
+            i = end;
+        } else {
+            let count = least(size - rest, bytes.len() - i);
+            let more = bytes::take_in(held, rest, bytes, i, count);
+            held = more;
+            rest += count;
+            i += count;
+            if rest == size {
+                let reached = counter.advance(bits);
+                chaining::block(form, family, &mut chain, &held, reached, &salt);
+                counter = reached;
+                compressed += 1;
+                held = [0u8; 128];
+                rest = 0;
+            }
         }
     }
     let m = state.m;
@@ -133,7 +158,7 @@ fn absorb(state: State, bytes: &[u8]) -> State
 }
 
 // Adds bytes to a digest.
-pub fn add(state: State, bytes: &[u8]) -> Step
+pub fn add(form: bool, state: State, bytes: &[u8]) -> Step
     ensures { λ r. ⌜ r ≡ addOf state (now (bytes .entry)) ⌝ }
 {
     if !state::consistent(state) {
@@ -151,7 +176,7 @@ pub fn add(state: State, bytes: &[u8]) -> Step
     }
     Step {
         answer: Answer::Accepted,
-        state: absorb(state, bytes),
+        state: absorb(form, state, bytes),
     }
 }
 
@@ -175,8 +200,8 @@ pub fn one_shot(m: u16, salt: &[u8], bytes: &[u8], last: LastBits, out: &mut [u8
     if out.len() < bits::digest_bytes(m) {
         return Report::Refused(Refusal::BufferShort);
     }
-    let start = started(m, salt);
-    let whole = absorb(start, bytes);
-    let finished = finishing::finish(whole, last, out);
+    let start = started(form::TABLES, m, salt);
+    let whole = absorb(form::TABLES, start, bytes);
+    let finished = finishing::finish(form::TABLES, whole, last, out);
     finished.report
 }

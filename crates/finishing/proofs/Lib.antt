@@ -1,4 +1,5 @@
 pub mod Blocking
+pub mod Running
 pub mod Stores
 pub mod Held
 pub mod Endings

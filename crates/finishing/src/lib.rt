@@ -85,14 +85,14 @@ fn ended(held: [u8; 128], rest: usize, last: LastBits) -> [u8; 128]
 }
 
 // Pads a copy of the held block and compresses it.
-fn close(state: State, last: LastBits) -> Closed
+fn close(form: bool, state: State, last: LastBits) -> Closed
     requires { ⌜ (consistentOf state ≡ true) × (lastFits last ≡ true) ⌝ }
     ensures { λ r. ⌜ (r .chain ≡ chainOver (state .family) (state .salt) (closing state last) (state .chain)) × (r .count ≡ length (closing state last)) ⌝ }
 {
     let family = state.family;
     let m = state.m;
     let salt = state.salt;
-    let chain = state.chain;
+    let mut chain = state.chain;
     let covered = state.covered;
     let bits = bits_of(covered, last);
     let rest = covered.0 % (family.block_bytes() as u64);
@@ -102,23 +102,23 @@ fn close(state: State, last: LastBits) -> Closed
     if ends_in_one(family, rest_bits) {
         let padded = with_length(block, family, covered, last, m);
         let counter = Counter::of(last_counter(rest_bits, bits));
-        let done = compress::compress(family, chain, padded, counter, salt);
+        chaining::block(form, family, &mut chain, &padded, counter, &salt);
         return Closed {
-            chain: done,
+            chain: chain,
             count: 1,
         };
     }
-    let next = compress::compress(family, chain, block, Counter::of(bits), salt);
+    chaining::block(form, family, &mut chain, &block, Counter::of(bits), &salt);
     let padded = with_length([0u8; 128], family, covered, last, m);
-    let done = compress::compress(family, next, padded, Counter::of(0), salt);
+    chaining::block(form, family, &mut chain, &padded, Counter::of(0), &salt);
     Closed {
-        chain: done,
+        chain: chain,
         count: 2,
     }
 }
 
 // Writes the digest of what a state covers and of last bits behind it to the front of the buffer, m/8 bytes rounded up. The state goes on unchanged.
-pub fn finish(state: State, last: LastBits, out: &mut [u8]) -> Finished
+pub fn finish(form: bool, state: State, last: LastBits, out: &mut [u8]) -> Finished
     ensures result { λ r. ⌜ r ≡ finishOf state last (now (out .entry)) ⌝ }
     ensures buffer { λ r. ⌜ now (out .exit) ≡ finishBuffer state last (now (out .entry)) ⌝ }
 {
@@ -142,7 +142,7 @@ pub fn finish(state: State, last: LastBits, out: &mut [u8]) -> Finished
             state: state,
         };
     }
-    let closed = close(state, last);
+    let closed = close(form, state, last);
     let chain = closed.chain;
     bytes::copy_out(bits::keep(bytes::spell(chain), m), size, out);
     let covered = state.covered;

@@ -22,7 +22,7 @@ fn hand_over(state: State) {
 
 fn measure(state: State) {
     let mut buffer = io::buffer();
-    let turn = streaming::add_all(state, &mut buffer);
+    let turn = streaming::add_all(form::BYTES, state, &mut buffer);
     let status = turn.status;
     match status {
         Status::End => hand_over(turn.state),
@@ -37,7 +37,7 @@ fn measure(state: State) {
 }
 
 fn main() {
-    let step = digest::begin(SmallFamily::DIGEST_BITS, b"");
+    let step = digest::begin(form::BYTES, SmallFamily::DIGEST_BITS, b"");
     let answer = step.answer;
     match answer {
         Answer::Accepted => measure(step.state),

@@ -1,17 +1,23 @@
--- Each public call of `sbox`, `aes`, `words`, `family`, `counter`, `compress` and `startup` has only one outcome.
+-- Each public call of `sbox`, `aes`, `words`, `tables`, `family`, `counter`, `compress`, `expanded`, `chaining` and `startup` has only one outcome.
 use mathlib.Core.Path.{_≡_}
 use mathlib.Core.List.{List}
-use Prim.Native.Nat.{ℕ, _+_}
+use Prim.Native.Nat.{ℕ, _+_, _/_}
+use lib.ListN.{length, replicate}
 use Rattle.outcome.specs.Outcome.{OneOutcome}
 use Rattle.outcome.proofs.Outcome.{one}
 use Rattle.sbox.specs.Sbox.{sboxOf}
 use Rattle.aes.specs.Round.{aesRound}
 use Rattle.words.specs.Words.{fromBytes, xor4, roundOf}
+use Rattle.tables.specs.Tables.{roundTables, roundBy}
 use Rattle.family.specs.declared.Family.{Family}
-use Rattle.family.specs.Family.{familyOf}
+use Rattle.family.specs.Family.{familyOf, blockBytes}
 use Rattle.counter.specs.declared.Counter.{Counter}
 use Rattle.counter.specs.Counter.{numberOf, counterOf}
-use Rattle.compress.specs.Compression.{compressOf}
+use Rattle.compress.specs.Expansion.{enteredOf}
+use Rattle.compress.specs.Cipher.{smallCipher}
+use Rattle.compress.specs.Compression.{smallOutput, compressOf}
+use Rattle.compress.specs.Run.{runOver}
+use Rattle.compress.specs.Window.{smallWords, halvesIn, halvesAt}
 use Rattle.startup.specs.Startup.{masterOf, startOf}
 
 -- `sub`
@@ -34,6 +40,13 @@ xored-one x y = one (xor4 x y)
 pub aes-round-one : (x key : List ℕ) → OneOutcome (λ (r : List ℕ). r ≡ roundOf x key)
 aes-round-one x key = one (roundOf x key)
 
+-- `tables::all`, and `tables::round`
+pub tables-one : OneOutcome (λ (r : List ℕ). r ≡ roundTables)
+tables-one = one roundTables
+
+pub round-by-one : (t x key : List ℕ) → OneOutcome (λ (r : List ℕ). r ≡ roundBy t x key)
+round-by-one t x key = one (roundBy t x key)
+
 -- `Family::of`
 pub family-one : (m : ℕ) → OneOutcome (λ (r : Family). r ≡ familyOf m)
 family-one m = one (familyOf m)
@@ -50,9 +63,28 @@ of-one bits = one (counterOf bits)
 pub advance-one : (c : Counter) (bits : ℕ) → OneOutcome (λ (r : Counter). r ≡ counterOf (numberOf c + bits))
 advance-one c bits = one (counterOf (numberOf c + bits))
 
--- `compress`, and with a family put in `compress_small` and `compress_large`
+-- what `small` leaves, and `feed`
+pub small-one : (block : List ℕ) (c : Counter) (salt h : List ℕ) → OneOutcome (λ (r : List ℕ). r ≡ halvesIn (smallCipher (smallWords block c salt) h) h)
+small-one block c salt h = one (halvesIn (smallCipher (smallWords block c salt) h) h)
+
+pub feed-one : (chain h : List ℕ) → OneOutcome (λ (r : List ℕ). r ≡ smallOutput chain (halvesAt 0 h))
+feed-one chain h = one (smallOutput chain (halvesAt 0 h))
+
+-- `entered`
+pub entered-one : (f : Family) (c : Counter) (i : ℕ) (x : List ℕ) → OneOutcome (λ (r : List ℕ). r ≡ enteredOf f c i x)
+entered-one f c i x = one (enteredOf f c i x)
+
+-- what `block` leaves as the chain, and with the large family `large_by_bytes`
 pub compress-one : (f : Family) (chain block : List ℕ) (c : Counter) (salt : List ℕ) → OneOutcome (λ (r : List ℕ). r ≡ compressOf f chain block c salt)
 compress-one f chain block c salt = one (compressOf f chain block c salt)
+
+-- what `start` leaves
+pub start-one : (f : Family) (chain block : List ℕ) → OneOutcome (λ (r : List ℕ). r ≡ compressOf f chain block (counterOf 0) (replicate 64 0))
+start-one f chain block = compress-one f chain block (counterOf 0) (replicate 64 0)
+
+-- what `run_by_tables` leaves
+pub run-one : (f : Family) (chain bytes : List ℕ) (c : Counter) (salt : List ℕ) → OneOutcome (λ (r : List ℕ). r ≡ runOver f salt (length bytes / blockBytes f) c bytes chain)
+run-one f chain bytes c salt = one (runOver f salt (length bytes / blockBytes f) c bytes chain)
 
 -- `master_value`
 pub master-one : (f : Family) → OneOutcome (λ (r : List ℕ). r ≡ masterOf f)

@@ -16,7 +16,12 @@ fn master_line(label: &[u8], family: Family, count: usize)
 {
     let mut line = [0u8; 256];
     let at = text::put(&mut line, 0, label);
-    lines::print_words(&mut line, at, startup::master_value(family), count);
+    lines::print_words(
+        &mut line,
+        at,
+        startup::master_value(form::TABLES, family),
+        count,
+    );
 }
 
 fn start_line(family: Family, m: u16, count: usize)
@@ -25,7 +30,12 @@ fn start_line(family: Family, m: u16, count: usize)
     let mut line = [0u8; 256];
     let at = text::put(&mut line, 0, b"IV_");
     let end = text::put_decimal(&mut line, at, m as u64);
-    lines::print_words(&mut line, end, startup::starting_value(family, m), count);
+    lines::print_words(
+        &mut line,
+        end,
+        startup::starting_value(form::TABLES, family, m),
+        count,
+    );
 }
 
 fn digest_line(m: u16, salted: bool, message: Message) {

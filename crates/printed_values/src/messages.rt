@@ -18,7 +18,7 @@ pub(crate) fn put_name(line: &mut [u8], at: usize, message: Message) -> usize {
 }
 
 fn add(state: State, bytes: &[u8]) -> State {
-    let step = digest::add(state, bytes);
+    let step = digest::add(form::TABLES, state, bytes);
     step.state
 }
 

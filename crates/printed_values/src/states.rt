@@ -42,7 +42,7 @@ fn salt_of(m: u16) -> [u8; 64] {
 }
 
 fn begun(m: u16, salt: &[u8]) -> State {
-    let step = digest::begin(m, salt);
+    let step = digest::begin(form::TABLES, m, salt);
     step.state
 }
 
@@ -59,11 +59,26 @@ pub(crate) fn started_by_rule(m: u16, salted: bool) -> State {
 fn started_with_salt(m: u16) -> State {
     let family = Family::of(m);
     let salt = salt_of(m);
-    let master = compress::compress(family, [0u32; 16], [0u8; 128], Counter::of(0), salt);
+    let mut chain = [0u32; 16];
+    chaining::block(
+        form::TABLES,
+        family,
+        &mut chain,
+        &[0u8; 128],
+        Counter::of(0),
+        &salt,
+    );
     let mut block = [0u8; 128];
     block[0] = (m % 256) as u8;
     block[1] = (m / 256) as u8;
-    let chain = compress::compress(family, master, block, Counter::of(0), salt);
+    chaining::block(
+        form::TABLES,
+        family,
+        &mut chain,
+        &block,
+        Counter::of(0),
+        &salt,
+    );
     State {
         family: family,
         m: m,
@@ -85,7 +100,7 @@ pub(crate) fn started_as_printed(m: u16, salted: bool) -> State {
 // A digest's bytes as words, the low byte first.
 pub(crate) fn ended_by_rule(state: State) -> [u32; 16] {
     let mut bytes = [0u8; 64];
-    digest::finish(state, LastBits::none(), &mut bytes);
+    digest::finish(form::TABLES, state, LastBits::none(), &mut bytes);
     words_of(bytes)
 }
 
@@ -106,7 +121,7 @@ fn ended_with_length(state: State) -> [u32; 16] {
     let family = state.family;
     let m = state.m;
     let salt = state.salt;
-    let chain = state.chain;
+    let mut chain = state.chain;
     let bits: u64 = 8000000;
     let mut block = [0u8; 128];
     block[0] = 0x80;
@@ -117,7 +132,15 @@ fn ended_with_length(state: State) -> [u32; 16] {
     let end = at + SmallFamily::LENGTH_BYTES;
     block[end] = (m % 256) as u8;
     block[end + 1] = (m / 256) as u8;
-    compress::compress(family, chain, block, Counter::of(bits), salt)
+    chaining::block(
+        form::TABLES,
+        family,
+        &mut chain,
+        &block,
+        Counter::of(bits),
+        &salt,
+    );
+    chain
 }
 
 fn ended_million(state: State) -> [u32; 16] {

@@ -3,6 +3,7 @@ use crate::forms;
 use crate::given;
 use crate::hashing;
 use crate::logs;
+use crate::rounds;
 use crate::show;
 use crate::words;
 use state::State;
@@ -26,6 +27,7 @@ enum Call {
     Save,
     Load,
     Write,
+    Round,
     Unreadable,
 }
 
@@ -50,6 +52,9 @@ fn named(line: &[u8]) -> Call {
     }
     if n == 2 && fields::same(name, b"check") {
         return Call::Check;
+    }
+    if n == 2 && fields::same(name, b"round") {
+        return Call::Round;
     }
     if n == 3 && fields::same(name, b"finish") {
         return Call::Finish;
@@ -90,6 +95,7 @@ fn asked(
         Call::Check => logs::check(line, data, lent, out),
         Call::Save => forms::save(line, state, lent, out),
         Call::Write => logs::write(line, salt, bank, data, lent, out),
+        Call::Round => rounds::round(line, out),
         _ => show::unreadable(out),
     }
 }

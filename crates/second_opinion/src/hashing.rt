@@ -22,6 +22,16 @@ pub(crate) fn stepped(out: &mut [u8], name: &[u8], step: digest::Step) -> Said {
     }
 }
 
+// The form of the round that a call goes by, so that both are compared, and one digest goes through both: by the tables where a number is
+// even (m for begin, the bytes added, the room for finish), else byte by byte. One-shot has the tables.
+fn form_for(n: usize) -> bool {
+    if n % 2 == 0 {
+        form::TABLES
+    } else {
+        form::BYTES
+    }
+}
+
 pub(crate) fn begin(line: &[u8], state: State, salt: &mut [u8], out: &mut [u8]) -> Said {
     let Bits::Are(m) = parse::read_bits(words::word(line, 1)) else {
         return calls::unreadable(state, out);
@@ -29,14 +39,22 @@ pub(crate) fn begin(line: &[u8], state: State, salt: &mut [u8], out: &mut [u8]) 
     let Bytes::Are(n) = parse::read_bytes(words::word(line, 2), salt) else {
         return calls::unreadable(state, out);
     };
-    stepped(out, b"begin", digest::begin(m, text::first(salt, n)))
+    stepped(
+        out,
+        b"begin",
+        digest::begin(form_for(m as usize), m, text::first(salt, n)),
+    )
 }
 
 pub(crate) fn add(line: &[u8], state: State, data: &mut [u8], out: &mut [u8]) -> Said {
     let Bytes::Are(n) = parse::read_bytes(words::word(line, 1), data) else {
         return calls::unreadable(state, out);
     };
-    stepped(out, b"add", digest::add(state, text::first(data, n)))
+    stepped(
+        out,
+        b"add",
+        digest::add(form_for(n), state, text::first(data, n)),
+    )
 }
 
 // How a digest ends: the last bits of its message, and how many bytes the lent buffer has.
@@ -76,7 +94,7 @@ pub(crate) fn finish(line: &[u8], state: State, lent: &mut [u8], out: &mut [u8])
     if n > lent.len() {
         return show::unreadable(out);
     }
-    let finished = digest::finish(state, last, &mut lent[0..n]);
+    let finished = digest::finish(form_for(n), state, last, &mut lent[0..n]);
     let at = reported(out, finished);
     show::bytes(out, at, &lent[0..n])
 }

@@ -1,4 +1,4 @@
-// Answers a file of cases, one line for each call: begin, state, add, finish, oneshot, check, save, load and write, on one current state.
+// Answers a file of cases, one line for each call: begin, state, add, finish, oneshot, check, save, load, write and round, on one current state.
 mod calls;
 mod forms;
 mod given;
@@ -6,6 +6,7 @@ mod hashing;
 mod input;
 mod logs;
 mod parse;
+mod rounds;
 mod show;
 mod words;
 

@@ -24,7 +24,7 @@ pub(crate) fn bytes(out: &mut [u8], at: usize, bytes: &[u8]) -> usize {
 }
 
 // The four bytes of a word, most significant first.
-fn spell(w: u32) -> [u8; 4] {
+pub(crate) fn spell(w: u32) -> [u8; 4] {
     [
         (w / 16777216 % 256) as u8,
         (w / 65536 % 256) as u8,

@@ -14,14 +14,14 @@ use streaming::Status;
 fn print_finished(state: State) {
     let m = state.m;
     let mut bytes = [0u8; 64];
-    let finished = digest::finish(state, LastBits::none(), &mut bytes);
+    let finished = digest::finish(form::TABLES, state, LastBits::none(), &mut bytes);
     let report = finished.report;
     output::print_report(report, &bytes, bits::digest_bytes(m));
 }
 
 fn digest_input(state: State) {
     let mut buffer = io::large_buffer();
-    let turn = streaming::add_all(state, &mut buffer);
+    let turn = streaming::add_all(form::TABLES, state, &mut buffer);
     let status = turn.status;
     match status {
         Status::End => print_finished(turn.state),
@@ -31,7 +31,7 @@ fn digest_input(state: State) {
 }
 
 fn run(m: u16, salt: &[u8]) {
-    let step = digest::begin(m, salt);
+    let step = digest::begin(form::TABLES, m, salt);
     let answer = step.answer;
     match answer {
         Answer::Accepted => digest_input(step.state),

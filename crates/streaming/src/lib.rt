@@ -24,7 +24,7 @@ fn status_of(answer: Answer) -> Status {
 }
 
 // Reads once, and adds what came.
-fn add_some(state: State, buffer: &mut [u8]) -> Turn {
+fn add_some(form: bool, state: State, buffer: &mut [u8]) -> Turn {
     let got = libc::read(STDIN_FILENO, buffer);
     if got < 0 {
         return Turn {
@@ -39,7 +39,7 @@ fn add_some(state: State, buffer: &mut [u8]) -> Turn {
         };
     }
     let n = io::count(got, buffer);
-    let step = digest::add(state, &buffer[..n]);
+    let step = digest::add(form, state, &buffer[..n]);
     let next = step.state;
     let answer = step.answer;
     Turn {
@@ -50,11 +50,11 @@ fn add_some(state: State, buffer: &mut [u8]) -> Turn {
 
 // Reads to the end. A proved loop has to end, and nothing says that the input does: the turns are counted down from a number that no
 // run uses up.
-pub fn add_all(state: State, buffer: &mut [u8]) -> Turn {
+pub fn add_all(form: bool, state: State, buffer: &mut [u8]) -> Turn {
     let mut reached = state;
     let mut turns = u64::MAX;
     while turns > 0 {
-        let turn = add_some(reached, buffer);
+        let turn = add_some(form, reached, buffer);
         let status = turn.status;
         let Status::More = status else {
             return turn;

@@ -15,7 +15,7 @@ use Rattle.finishing.proofs.close.Tie as tie
 
 -- the length that the type tells
 full : (c : tie.Start) → length (c .args .state .held) ≡ 128
-full c = sym (length-map (c .args .state .held) (λ v. v)) ∙ c .good .0 .1 .1 .1 .1 .1 .1 .1 .1 .0 .1 .0 .1
+full c = sym (length-map (c .args .state .held) (λ v. v)) ∙ c .good .1 .0 .1 .1 .1 .1 .1 .1 .1 .1 .0 .1 .0 .1
 
 ok : (c : tie.Start) → Sound (c .args .state)
 ok c = sound _ (c .pre .0)
@@ -41,23 +41,25 @@ sizing c = c .before .before .before .before .before
 
 returns : tie.Need-returns
 returns c =
-    let p = c .before .before .before .before .before in
+    let k = c .before .before .before .before in
+    let w = k .before .before in
+    let p = w .before .before in
     let z = sizing p in
     let a = start z in
     close-one (a .args .state) (a .args .last) (ok a) (full a) (z .block-bytes .ensures) (z .before .bits-of .ensures) (p .before .before .before .bits-of2 .ensures)
-    (p .before .ended .ensures) (p .ends-in-one .ensures) (c .before .before .before .before .if1 .taken)
-    (c .before .before .before .with-length .ensures) (c .before .before .last-counter .ensures) (c .before .of .ensures) (c .compress .ensures)
+    (p .before .ended .ensures) (p .ends-in-one .ensures) (w .before .if1 .taken) (w .with-length .ensures) (k .before .last-counter .ensures) (k .of .ensures) (c .block .ensures)
 
 returns-2 : tie.Need-returns-2
 returns-2 c =
-    let e = c .before .before .before .before .before in
+    let w = c .before .before .before .before .before in
+    let k = w .before .before .before in
+    let e = k .before .before .before in
     let p = e .before in
     let z = sizing p in
     let a = start z in
     close-two (a .args .state) (a .args .last) (ok a) (full a) (z .block-bytes .ensures) (z .before .bits-of .ensures) (p .before .before .before .bits-of2 .ensures)
     (p .before .ended .ensures) (p .ends-in-one .ensures) (e .if1 .left)
-    (c .before .before .before .before .of2 .ensures) (c .before .before .before .compress2 .ensures) (c .before .before .with-length2 .ensures)
-    (c .before .of3 .ensures) (c .compress3 .ensures)
+    (k .of2 .ensures) (w .before .block3 .ensures) (w .with-length2 .ensures) (c .before .before .of3 .ensures) (c .block4 .ensures)
 
 pub close-spec : {M : Type 1} → statement M
 close-spec =
@@ -76,7 +78,7 @@ close-spec =
     returns
     (λ c κs. search needs)
     (λ c κs. search needs)
-    (λ c κs. few (start (sizing (c .before .before .before))))
+    (λ c κs. few (start (sizing (c .before .before .before .before .before .before))))
     (λ c κs. search needs)
     (λ c κs. search needs)
     returns-2)

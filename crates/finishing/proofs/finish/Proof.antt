@@ -14,7 +14,7 @@ use Rattle.finishing.proofs.finish.Tie as tie
 
 -- the length that the type tells
 sixteen : (c : tie.Start) → length (c .args .state .chain) ≡ 16
-sixteen c = sym (length-map (c .args .state .chain) (λ v. v)) ∙ c .good .0 .1 .1 .1 .1 .1 .0 .1 .0 .1
+sixteen c = sym (length-map (c .args .state .chain) (λ v. v)) ∙ c .good .1 .0 .1 .1 .1 .1 .1 .0 .1 .0 .1
 
 ok : (c : tie.Else1) → consistentOf (c .before .before .before .args .state) ≡ true
 ok c = held (c .before .consistent .ensures) (c .if1 .left)

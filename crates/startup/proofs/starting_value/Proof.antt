@@ -5,7 +5,7 @@ use Rattle.startup.proofs.starting_value.Tie as tie
 
 returns : tie.Need-returns
 unfolding startOf
-returns c = rw (c .compress .ensures, c .before .of .ensures, c .before .before .master-value .ensures)
+returns c = rw (c .before .before .before .master-value .ensures) at (c .start .ensures)
 
 pub starting-value-spec : {M : Type 1} → statement M
 starting-value-spec =
@@ -15,7 +15,6 @@ starting-value-spec =
     (λ c. search needs)
     (λ c. search needs)
     (λ c. search needs)
-    (λ c κs. search needs)
     (λ c κs. search needs)
     (λ c κs. search needs)
     returns)

@@ -6,10 +6,10 @@ use Rattle.streaming.proofs.add_all.Statement.{statement}
 use Rattle.streaming.proofs.add_all.Tie as tie
 
 abbrev Inv-loop : tie.InvT-loop
-Inv-loop buffer₀ reached₀ turns₀ buffer reached turns = length buffer ≡ length buffer₀
+Inv-loop form buffer₀ reached₀ turns₀ buffer reached turns = length buffer ≡ length buffer₀
 
 abbrev μ-loop : tie.MeasureT-loop
-μ-loop buffer₀ reached₀ turns₀ buffer reached turns = turns
+μ-loop form buffer₀ reached₀ turns₀ buffer reached turns = turns
 
 pub add-all-spec : {M : Type 1} → statement M
 add-all-spec =

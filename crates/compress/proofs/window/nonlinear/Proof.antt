@@ -1,7 +1,9 @@
 use Prim.Native.Nat.{_%_}
 use native.Mathlib.Omega.{arith}
 use denote.Ref.{now}
+use Rattle.family.specs.declared.Family.the-variants.{Small}
 use Rattle.compress.specs.Window.{nonlinearFrom}
+use Rattle.compress.proofs.Growing.{entered-group}
 use Rattle.compress.proofs.Grown.{words-four}
 use borrow.Author.Needs.{needs}
 use Rattle.compress.proofs.window.nonlinear.Statement.{statement}
@@ -10,17 +12,17 @@ use Rattle.compress.proofs.window.nonlinear.Tie as tie
 returns : tie.Need-returns
 unfolding nonlinearFrom
 returns c =
-    let s = c .before .before .before .before .before .before .before .before .before .before .before .before .before in
+    let s = c .before .before .before .before .before .before .before .before .before .before .before .before in
     let salt = now (s .args .salt) in
-    let quads = c .before .before .before .before .before .before .before in
+    let quads = c .before .before .before .before .before .before in
     rw (
-      c .xored3 .ensures,
-      c .before .counts .ensures,
-      c .before .before .xored2 .ensures,
-      c .before .before .before .quad2 .ensures,
-      c .before .before .before .before .place2 .ensures,
-      c .before .before .before .before .before .aes-round .ensures,
-      c .before .before .before .before .before .before .xored .ensures,
+      c .entered .ensures,
+      entered-group Small (s .args .c) (s .args .i) (c .before .xored2 .result) (s .pre .1),
+      c .before .xored2 .ensures,
+      c .before .before .quad2 .ensures,
+      c .before .before .before .place2 .ensures,
+      c .before .before .before .before .aes-round .ensures,
+      c .before .before .before .before .before .xored .ensures,
       quads .quad-of .ensures,
       quads .before .taps .ensures,
       quads .before .before .quad .ensures,
@@ -42,7 +44,6 @@ nonlinear-spec =
     (λ c κs. search needs)
     (λ c κs. search needs)
     (λ c. search needs)
-    (λ c κs. search needs)
     (λ c κs. search needs)
     (λ c κs. search needs)
     (λ c κs. search needs)

@@ -1,0 +1,7 @@
+// Which form of the AES round a caller wants: one word at the call. No contract depends on it.
+
+// Byte by byte, by the S-box and the columns' mixing: little stack and no tables. The first loader's.
+pub const BYTES: bool = false;
+
+// By four tables of 256 words: a quarter of the instructions, and the tables' 4,096 bytes of stack.
+pub const TABLES: bool = true;
