@@ -144,7 +144,7 @@ sed -nE 's/^    (refused [0-9]+ at [0-9]+)$/\1/p' README.md | cmp - samples/regi
 one_more
 
 # Each program that hashes has the form of the round that it is to have, and no other: first_stage the byte form, the programs for people the tables, and
-# second_opinion both. Where it goes byte by byte, the small family's compression stands apart from the large one's words, and needs little stack.
+# second_opinion both. In first_stage the small family's compression stands apart from the large one's words, and needs little stack.
 rustc -O --edition 2021 tests/stack.rs -o "$made/stack"
 has() { grep -q "^[0-9a-f]* <$1>:$" "$made/functions"; }
 needs() { has "$1" || { echo "tests/run.sh: $program has no $1" >&2 && exit 1; }; }
@@ -155,12 +155,18 @@ for main in crates/*/src/main.rt; do
     echo "$program"
     "$objdump" -d --no-show-raw-insn "target/bin/$program" >"$made/functions"
     case $program in
-        first_stage) lacks expanded::run_by_tables ;;
-        second_opinion) needs expanded::run_by_tables ;;
-        *) needs expanded::run_by_tables && lacks words::aes_round ;;
-    esac
-    case $program in
-        first_stage | second_opinion) "$made/stack" compress::cipher::small "$(expected stack)" <"$made/functions" ;;
+        first_stage)
+            lacks expanded::run_by_tables
+            "$made/stack" compress::cipher::small "$(expected stack)" <"$made/functions"
+            ;;
+        second_opinion)
+            needs expanded::run_by_tables
+            needs compress::cipher::small
+            ;;
+        *)
+            needs expanded::run_by_tables
+            lacks words::aes_round
+            ;;
     esac
     one_more
 done

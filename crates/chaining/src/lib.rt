@@ -1,4 +1,4 @@
-// The chain taken through compression, over one block or over a run of them, in the form of the round that the caller names.
+// The chain taken through one compression, in the form of the round that the caller names.
 ghost use mathlib.Core.Path.{_≡_};
 ghost use lib.ListN.{replicate};
 ghost use Rattle.counter.specs.Counter.{counterOf};
@@ -6,7 +6,7 @@ ghost use Rattle.compress.specs.Compression.{compressOf};
 use counter::Counter;
 use family::Family;
 
-// Takes the chain over one block. The small cipher is called from here and from the run below: the compiler puts what one place calls
+// Takes the chain over one block. Each byte-form compression is called from here and from `start`: the compiler puts what one place calls
 // into its caller, and a small compression would then carry the large one's words on its stack.
 pub fn block(
     form: bool,

@@ -1,5 +1,5 @@
--- The small family's words through a window of sixteen, and its cipher's steps: what private functions' contracts cite. A reader of the
--- public ones needs none of it.
+-- The small family's words through a window of sixteen, and its cipher's steps: what private functions' contracts cite. Of the public ones `small` cites
+-- `smallWords` and `halvesIn`, and `feed` `halvesAt`; a reader of the others needs none of it.
 use Prim.Native.Nat.{ℕ, zero, suc, _+_, _-_, _*_, _%_, _≤_, _<_}
 use mathlib.Core.Path.{_≡_}
 use mathlib.Core.List.{List, [], _∷_, _++_}
