@@ -1,5 +1,5 @@
 -- Lists of four words, and stores of them read back.
-use mathlib.Core.Path.{_≡_, refl, ap, ap₂, _∙_}
+use mathlib.Core.Path.{_≡_, refl, ap, _∙_}
 use mathlib.Core.Logic.{_≢_}
 use mathlib.Core.List.{List, [], _∷_, _++_}
 use Prim.Native.Nat.{ℕ, zero, suc, _+_, _≤_, _<_}
@@ -21,13 +21,6 @@ four-of (a ∷ b ∷ c ∷ d ∷ e ∷ x) h = absurd (omega arith)
 -- four stores in a row
 pub stores-four : (l x : List ℕ) (i : ℕ) → length x ≡ 4 → set (set (set (set l i (getD x 0 0)) (i + 1) (getD x 1 0)) (i + 2) (getD x 2 0)) (i + 3) (getD x 3 0) ≡ sets l i x
 stores-four l x i h = rw (add-one, add-two, add-three) (ap (sets l i) (four-of x h))
-
-abbrev each : List ℕ → List ℕ
-each x = getD x 0 0 ∷ getD x 1 0 ∷ getD x 2 0 ∷ getD x 3 0 ∷ []
-
-pub joined-four : (a b c d : List ℕ) → length a ≡ 4 → length b ≡ 4 → length c ≡ 4 → length d ≡ 4 → each a ++ (each b ++ (each c ++ each d)) ≡ a ++ (b ++ (c ++ d))
-joined-four a b c d ha hb hc hd =
-    ap₂ _++_ (four-of a ha) (ap₂ _++_ (four-of b hb) (ap₂ _++_ (four-of c hc) (four-of d hd)))
 
 -- ---- a run of stores, read back
 -- a place that was stored to

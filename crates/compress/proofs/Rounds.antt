@@ -1,4 +1,4 @@
--- One round more of each cipher, for any inner functions.
+-- One round more of the small cipher, for any inner function, and its halves in the chain's place.
 use mathlib.Core.Path.{_≡_, refl, ap, _∙_}
 use mathlib.Core.List.{List, _++_}
 use Prim.Native.Nat.{ℕ, zero, suc, _+_, _-_, _*_, _/_, _%_}
@@ -6,12 +6,11 @@ use native.Mathlib.Omega.{arith}
 use lib.ListN.{length, drop}
 use lib.Seq.{sets}
 use Rattle.compress.specs.declared.cipher.Halves.{Halves}
-use Rattle.compress.specs.declared.cipher.Quarters.{Quarters}
 use Rattle.family.specs.declared.Family.the-variants.{Small}
 use Rattle.family.specs.Family.{rounds}
 use Rattle.counter.specs.declared.Counter.{Counter}
 use Rattle.words.specs.Words.{times, fourAt, xor4}
-use Rattle.compress.specs.Cipher.{halvesRound, quartersRound, innerOf, smallCipher}
+use Rattle.compress.specs.Cipher.{halvesRound, innerOf, smallCipher}
 use Rattle.compress.specs.Compression.{smallOutput, compressOf}
 use Rattle.compress.specs.Window.{smallWords, halvesAt, halvesIn}
 use Rattle.compress.proofs.Fours.{four-length, fours-stored, fours-kept, fours-joined, four-drop}
@@ -19,18 +18,11 @@ use Rattle.compress.proofs.Growing.{times-more}
 
 module _ (F : ℕ → List ℕ → List ℕ) (k : ℕ) (s : Halves) {l r f n : List ℕ}
     (e : _≡_ {A = Halves} (record { left = l; right = r }) (times k (halvesRound F) s)) (hf : f ≡ F k r) (hn : n ≡ xor4 l f) where
-  pub halves-step : _≡_ {A = Halves} (record { left = r; right = n }) (times (k + 1) (halvesRound F) s)
+  halves-step : _≡_ {A = Halves} (record { left = r; right = n }) (times (k + 1) (halvesRound F) s)
   unfolding halvesRound
   halves-step = rw (times-more k (halvesRound F) s, ← e, hn, hf)
 
-module _ (F F′ : ℕ → List ℕ → List ℕ) (k : ℕ) (s : Quarters) {l a b r f f′ n n′ : List ℕ}
-    (e : _≡_ {A = Quarters} (record { l = l; a = a; b = b; r = r }) (times k (quartersRound F F′) s))
-    (hf : f ≡ F k a) (hn : n ≡ xor4 l f) (hf′ : f′ ≡ F′ k r) (hn′ : n′ ≡ xor4 b f′) where
-  pub quarters-step : _≡_ {A = Quarters} (record { l = r; a = n; b = a; r = n′ }) (times (k + 1) (quartersRound F F′) s)
-  unfolding quartersRound
-  quarters-step = rw (times-more k (quartersRound F F′) s, ← e, hn, hf, hn′, hf′)
-
-xor-length : (x y : List ℕ) → length (xor4 x y) ≡ 4
+pub xor-length : (x y : List ℕ) → length (xor4 x y) ≡ 4
 unfolding xor4
 xor-length x y = refl
 

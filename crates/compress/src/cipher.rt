@@ -1,6 +1,6 @@
 // What the two ciphers are defined over, and the small one over a window of words.
 ghost use mathlib.Core.Path.{_≡_};
-ghost use Prim.Native.Nat.{_+_, _*_, _%_, _≤_};
+ghost use Prim.Native.Nat.{_+_, _%_, _≤_};
 ghost use lib.ListN.{length};
 ghost use Rattle.family.specs.declared.Family.the-variants.{Small};
 ghost use Rattle.family.specs.Family.{blockWords, expandedWords};

@@ -1,5 +1,5 @@
 -- The large cipher with its quarters in the chain's place: the words of F change the first of them, those of F' the third, and then all have moved on.
-use mathlib.Core.Path.{_≡_, refl, ap, _∙_}
+use mathlib.Core.Path.{_≡_, ap, _∙_}
 use mathlib.Core.List.{List}
 use Prim.Native.Nat.{ℕ, zero, suc, _+_, _*_, _/_, _%_, _≤_}
 use native.Mathlib.Omega.{arith}
@@ -11,11 +11,8 @@ use Rattle.compress.specs.declared.cipher.Quarters.{Quarters}
 use Rattle.compress.specs.Cipher.{quartersRound, innerOf}
 use Rattle.compress.proofs.Fours.{fours-stored, fours-kept}
 use Rattle.compress.proofs.Growing.{times-more}
+use Rattle.compress.proofs.Rounds.{xor-length}
 use Rattle.expanded.specs.Places.{quartersAt, placeOf}
-
-xor-length : (x y : List ℕ) → length (xor4 x y) ≡ 4
-unfolding xor4
-xor-length x y = refl
 
 -- the quarter behind
 behind : (p : ℕ) → (p % 16 + 4) % 16 ≡ (p + 4) % 16

@@ -1,10 +1,10 @@
 // Compression with all expanded words in an array: both families over the tables, and the large one byte by byte.
 ghost use mathlib.Core.Path.{_≡_};
 ghost use mathlib.Core.Bool.{true};
-ghost use Prim.Native.Nat.{_*_, _/_, _≤_};
+ghost use Prim.Native.Nat.{_/_, _≤_};
 ghost use lib.ListN.{length};
 ghost use Rattle.family.specs.declared.Family.the-variants.{Small, Large};
-ghost use Rattle.family.specs.Family.{blockBytes, blockWords};
+ghost use Rattle.family.specs.Family.{blockBytes};
 ghost use Rattle.compress.specs.Compression.{largeOutput, compressOf};
 ghost use Rattle.compress.specs.Run.{runOver};
 ghost use Rattle.expanded.specs.Lent.{Lent};

@@ -1,5 +1,4 @@
 use mathlib.Core.Path.{_∙_}
-use native.Mathlib.Omega.{arith}
 use Rattle.compress.specs.Compression.{largeOutput}
 use Rattle.compress.proofs.Growing.{stores-sixteen}
 use borrow.Author.Needs.{needs}

@@ -4,7 +4,7 @@ use native.Mathlib.Omega.{arith}
 use borrow.Author.Needs.{needs}
 use Rattle.words.specs.Words.{times}
 use Rattle.compress.specs.Cipher.{largeCipher}
-use Rattle.expanded.specs.Places.{quartersAt, placeOf}
+use Rattle.expanded.specs.Places.{quartersAt}
 use Rattle.expanded.proofs.Quarters.{Standing, place-room, standing-more}
 use Rattle.expanded.proofs.cipher.large.Statement.{statement}
 use Rattle.expanded.proofs.cipher.large.Tie as tie

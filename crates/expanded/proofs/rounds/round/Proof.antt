@@ -1,4 +1,3 @@
-use mathlib.Core.Path.{_∙_}
 use mir.Syntax.{w32}
 use mir.Val.{Fits}
 use lib.ListN.{getD}
