@@ -40,7 +40,7 @@ fn started(form: bool, m: u16, salt: &[u8]) -> State
     ensures { λ r. ⌜ r ≡ stateOf m (now (salt .entry)) [] ⌝ }
 {
     let family = Family::of(m);
-    let chain = startup::starting_value(form, family, m);
+    let chain = starting::starting_value(form, family, m);
     let filled = bytes::fill_salt(salt);
     State {
         family: family,

@@ -16,12 +16,7 @@ fn master_line(label: &[u8], family: Family, count: usize)
 {
     let mut line = [0u8; 256];
     let at = text::put(&mut line, 0, label);
-    lines::print_words(
-        &mut line,
-        at,
-        startup::master_value(form::TABLES, family),
-        count,
-    );
+    lines::print_words(&mut line, at, starting::master_value(family), count);
 }
 
 fn start_line(family: Family, m: u16, count: usize)
@@ -33,7 +28,7 @@ fn start_line(family: Family, m: u16, count: usize)
     lines::print_words(
         &mut line,
         end,
-        startup::starting_value(form::TABLES, family, m),
+        starting::starting_value(form::TABLES, family, m),
         count,
     );
 }
