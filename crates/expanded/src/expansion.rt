@@ -12,6 +12,8 @@ use crate::quads;
 use crate::rounds;
 use counter::Counter;
 use family::Family;
+use family::LargeFamily;
+use family::SmallFamily;
 
 // The words that a group at i is made from, n being the far distance.
 fn taps(w: &[u32], i: usize, n: usize) -> [u32; 4]
@@ -119,7 +121,11 @@ fn run(
     if r % 2 == 0 {
         nonlinear(form, t, family, w, at, c, salt);
     } else {
-        linear(w, at, n, family.near_distance());
+        // The compiler makes the family's own loop of each.
+        match family {
+            Family::Small => linear(w, at, SmallFamily::BLOCK_WORDS, SmallFamily::NEAR_DISTANCE),
+            Family::Large => linear(w, at, LargeFamily::BLOCK_WORDS, LargeFamily::NEAR_DISTANCE),
+        }
     }
 }
 

@@ -95,7 +95,30 @@ fn by_tables(
     }
 }
 
-// Takes the chain over the whole blocks of `bytes` by the tables, which are named once for all of them.
+// Takes the chain over the whole blocks of `bytes`, by the lent tables.
+fn run_over(
+    t: &[u32; 1024],
+    family: Family,
+    chain: &mut [u32; 16],
+    bytes: &[u8],
+    counter: Counter,
+    salt: &[u8; 64],
+)
+    requires { ⌜ Lent true (now t) ⌝ }
+    ensures { λ _. ⌜ now (chain .exit) ≡ runOver family (now (salt .entry)) (length (now (bytes .entry)) / blockBytes family) counter (now (bytes .entry)) (now (chain .entry)) ⌝ }
+{
+    let size = family.block_bytes();
+    let bits = (8 * size) as u32;
+    let mut c = counter;
+    let mut i = 0;
+    while bytes.len() - i >= size {
+        by_tables(t, family, chain, &bytes[i..i + size], c, salt);
+        c = c.advance(bits);
+        i += size;
+    }
+}
+
+// Takes the chain over the whole blocks of `bytes` by the tables, which are named once for all of them, and not at all where there is none.
 pub fn run_by_tables(
     family: Family,
     chain: &mut [u32; 16],
@@ -105,17 +128,26 @@ pub fn run_by_tables(
 )
     ensures { λ _. ⌜ now (chain .exit) ≡ runOver family (now (salt .entry)) (length (now (bytes .entry)) / blockBytes family) counter (now (bytes .entry)) (now (chain .entry)) ⌝ }
 {
-    let size = family.block_bytes();
-    if bytes.len() < size {
+    if bytes.len() < family.block_bytes() {
         return;
     }
     let t = tables::all();
-    let bits = (8 * size) as u32;
-    let mut c = counter;
-    let mut i = 0;
-    while bytes.len() - i >= size {
-        by_tables(&t, family, chain, &bytes[i..i + size], c, salt);
-        c = c.advance(bits);
-        i += size;
-    }
+    run_over(&t, family, chain, bytes, counter, salt);
+}
+
+// The same, and then one block more with a counter of its own: a message's whole blocks and its last one share one naming of the tables.
+pub fn run_and_block_by_tables(
+    family: Family,
+    chain: &mut [u32; 16],
+    bytes: &[u8],
+    first: Counter,
+    block: &[u8; 128],
+    counter: Counter,
+    salt: &[u8; 64],
+)
+    ensures { λ _. ⌜ now (chain .exit) ≡ compressOf family (runOver family (now (salt .entry)) (length (now (bytes .entry)) / blockBytes family) first (now (bytes .entry)) (now (chain .entry))) (now (block .entry)) counter (now (salt .entry)) ⌝ }
+{
+    let t = tables::all();
+    run_over(&t, family, chain, bytes, first, salt);
+    by_tables(&t, family, chain, block, counter, salt);
 }
