@@ -3,7 +3,6 @@ use mathlib.Core.Path.{_≡_, _∙_}
 use mathlib.Core.Bool.{true, false}
 use mathlib.Core.List.{List, []}
 use Prim.Native.Nat.{ℕ, _+_, _≤_, _<_}
-use native.Mathlib.Omega.{arith}
 use native.Mathlib.Nat.{zero-div}
 use lib.ListN.{length, replicate}
 use lib.Seq.{drop-nil}
@@ -11,28 +10,24 @@ use borrow.Author.Tests.{lt-ltb, le-ltb}
 use Rattle.family.specs.declared.Family.{Family}
 use Rattle.startup.specs.Startup.{startOf}
 use Rattle.answers.specs.declared.refusal.Refusal.{Refusal}
-use Rattle.answers.specs.declared.refusal.Refusal.the-variants.{DigestLength, SaltSize, MessageLimit, StateInconsistent, BufferShort, BitsUnfit}
+use Rattle.answers.specs.declared.refusal.Refusal.the-variants.{DigestLength, SaltSize, MessageLimit, StateInconsistent}
 use Rattle.answers.specs.declared.refusal.Answer.{Answer}
 use Rattle.answers.specs.declared.refusal.Answer.the-variants.{Accepted, Refused}
 use Rattle.family.specs.Family.{familyOf}
 use Rattle.bits.specs.declared.LastBits.{LastBits}
-use Rattle.bits.specs.Bits.{lastFits, digestBytes}
 use Rattle.bits.specs.Message.{Message, messageOf}
 use Rattle.state.specs.declared.State.{State}
 use Rattle.digest.specs.declared.calls.Step.{Step}
 use Rattle.reports.specs.declared.Report.{Report}
 use Rattle.reports.specs.declared.Report.the-variants as report
-use Rattle.finishing.specs.declared.Finished.{Finished}
 use Rattle.answers.specs.Refusal.{ifAccepted}
 use Rattle.state.specs.Bytes.{fill}
-use Rattle.finishing.specs.Blocks.{wholeBlocks, chainOver}
+use Rattle.finishing.specs.Blocks.{wholeBlocks, chainOver, digestOf}
 use Rattle.state.specs.State.{limit, allowed, consistentOf, zeroState}
 use Rattle.digest.specs.Running.{stateOf, absorbed}
-use Rattle.finishing.specs.Finish.{finishOf, finishBuffer}
+use Rattle.finishing.specs.Hash.{hashAnswer, hashOf, hashBuffer}
 use Rattle.digest.specs.Calls.{saltFits, beginAnswer, beginOf, addAnswer, addOf, oneShotAnswer, oneShotOf, oneShotBuffer}
 use Rattle.state.proofs.Filling.{fill-nil}
-use Rattle.digest.proofs.Cuts.{start-consistent, state-absorbed}
-use Rattle.digest.proofs.Shot.{finish-one-shot}
 
 pub start-made : (m : ℕ) (salt : List ℕ) {f : Family} {chain filled : List ℕ} → f ≡ familyOf m → chain ≡ startOf f m → filled ≡ fill 64 salt
     → _≡_ {A = State} (record { family = f; m = m; salt = filled; chain = chain; covered = record { 0 = 0 }; compressed = 0; held = replicate 128 0 }) (stateOf m salt [])
@@ -96,27 +91,12 @@ module _ (m : ℕ) (salt xs : List ℕ) (last : LastBits) (out : List ℕ) where
     shot-salt h = rw (ok, ← of, h)
 
     module _ (fits : saltFits f salt ≡ true) where
-      pub shot-over : limit < length xs → oneShotAnswer m salt x out ≡ Refused MessageLimit
-      unfolding oneShotAnswer
-      shot-over h = rw (ok, ← of, fits, lt-ltb limit (length xs) h)
+      same-tests : oneShotAnswer m salt x out ≡ hashAnswer m x out
+      unfolding oneShotAnswer hashAnswer
+      same-tests = rw (ok, ← of, fits)
 
-      module _ (room : length xs ≤ limit) where
-        pub shot-unfit : lastFits last ≡ false → oneShotAnswer m salt x out ≡ Refused BitsUnfit
-        unfolding oneShotAnswer
-        shot-unfit h = rw (ok, ← of, fits, le-ltb limit (length xs) room, h)
-
-        pub shot-short : lastFits last ≡ true → {size : ℕ} → size ≡ digestBytes m → length out < size → oneShotAnswer m salt x out ≡ Refused BufferShort
-        unfolding oneShotAnswer
-        shot-short g {size} e h = rw (ok, ← of, fits, le-ltb limit (length xs) room, g, ← e, lt-ltb (length out) size h)
-
-        pub shot-start : {start : State} → start ≡ stateOf m salt [] → (consistentOf start ≡ true) × (start .covered .0 + length xs ≤ limit)
-        unfolding stateOf
-        shot-start made = rw made (start-consistent m salt ok (rw of at fits), omega arith)
-
-        -- what started, absorb and finish ensure
-        pub shot : {start whole : State} → start ≡ stateOf m salt [] → whole ≡ absorbed start xs → {done : Finished} {after : List ℕ}
-            → done ≡ finishOf whole last out → after ≡ finishBuffer whole last out → (done .report ≡ oneShotOf m salt x out) × (after ≡ oneShotBuffer m salt x out)
-        shot {start} {whole} made took e1 e2 =
-            let w : whole ≡ stateOf m salt xs = took ∙ rw made (state-absorbed m salt [] xs) in
-            let same = finish-one-shot m salt (begin-in m salt ok of fits) xs room last out in
-            (rw (e1, w) (same .0), rw (e2, w) (same .1))
+      -- what fill_salt, starting_value and hash ensure
+      pub shot : {filled start : List ℕ} → filled ≡ fill 64 salt → start ≡ startOf f m → {done : Report} {after : List ℕ}
+          → done ≡ hashOf m x out → after ≡ hashBuffer m filled start x out → (done ≡ oneShotOf m salt x out) × (after ≡ oneShotBuffer m salt x out)
+      unfolding oneShotOf oneShotBuffer hashOf hashBuffer digestOf
+      shot es ec e1 e2 = (e1 ∙ rw same-tests, e2 ∙ rw (same-tests, es, ec, of))

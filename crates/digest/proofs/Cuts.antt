@@ -177,9 +177,6 @@ module _ (m : ℕ) (salt xs : List ℕ) where
   unfolding absorbed stateOf heldOf wholeBlocks chainOver
   state-from = simp (zero-div, zero-mod, zero-mul, zero-add)
 
-pub start-consistent : (m : ℕ) (salt : List ℕ) → allowed m ≡ true → saltFits (familyOf m) salt ≡ true → consistentOf (stateOf m salt []) ≡ true
-start-consistent m salt ok fits = state-consistent m salt [] ok fits (omega arith)
-
 -- The state of xs with ys taken in is the state of xs ++ ys.
 pub state-absorbed : (m : ℕ) (salt xs ys : List ℕ) → absorbed (stateOf m salt xs) ys ≡ stateOf m salt (xs ++ ys)
 state-absorbed m salt xs ys =

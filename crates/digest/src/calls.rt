@@ -1,4 +1,4 @@
-// Begin, add and one-shot. Each tests in the documents' order, and a refusal changes nothing.
+// Begin, add and one-shot. Each tests in the documents' order, and a refusal changes nothing. Of one-shot's tests the first two stand here, the others in `finishing::hash`.
 ghost use mathlib.Core.Path.{_≡_};
 ghost use mathlib.Core.Bool.{true, cond};
 ghost use mathlib.Core.List.{[]};
@@ -188,20 +188,11 @@ pub fn one_shot(m: u16, salt: &[u8], bytes: &[u8], last: LastBits, out: &mut [u8
     if !state::is_allowed(m) {
         return Report::Refused(Refusal::DigestLength);
     }
-    if !salt_fits(Family::of(m), salt) {
+    let family = Family::of(m);
+    if !salt_fits(family, salt) {
         return Report::Refused(Refusal::SaltSize);
     }
-    if bytes.len() as u64 > state::LIMIT {
-        return Report::Refused(Refusal::MessageLimit);
-    }
-    if !last.fits() {
-        return Report::Refused(Refusal::BitsUnfit);
-    }
-    if out.len() < bits::digest_bytes(m) {
-        return Report::Refused(Refusal::BufferShort);
-    }
-    let start = started(form::TABLES, m, salt);
-    let whole = absorb(form::TABLES, start, bytes);
-    let finished = finishing::finish(form::TABLES, whole, last, out);
-    finished.report
+    let filled = bytes::fill_salt(salt);
+    let start = starting::starting_value(form::TABLES, family, m);
+    finishing::hash(m, &filled, &start, bytes, last, out)
 }

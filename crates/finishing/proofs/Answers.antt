@@ -6,7 +6,7 @@ use Prim.Native.Nat.{ℕ, _+_, _*_, _≤_, _<_}
 use native.Mathlib.Omega.{arith}
 use native.Mathlib.Nat.{le-mul-of-pos-right}
 use lib.Dec.{leb, ltb}
-use lib.ListN.{length, take, drop}
+use lib.ListN.{length, drop}
 use borrow.Author.Tests.{leb-true, lt-ltb, le-ltb}
 use Rattle.family.specs.declared.Family.{Family}
 use Rattle.family.specs.declared.Family.the-variants.{Large}
@@ -20,7 +20,7 @@ use Rattle.answers.specs.declared.refusal.Answer.the-variants.{Accepted, Refuse
 use Rattle.answers.proofs.Tests.{and-right}
 use Rattle.reports.specs.declared.Report.the-variants as report
 use Rattle.bits.specs.declared.LastBits.{LastBits}
-use Rattle.bits.specs.Bits.{lastFits, digestBytes, kept, firstBits}
+use Rattle.bits.specs.Bits.{lastFits, digestBytes, firstBits}
 use Rattle.bits.specs.Message.{Message, messageOf}
 use Rattle.bits.proofs.Firsts.{first-length}
 use Rattle.fields.specs.Fields.{bytesOf}
@@ -32,7 +32,7 @@ use Rattle.finishing.specs.declared.Finished.{Finished}
 use Rattle.finishing.specs.Blocks.{blocksOf, chainOver, digestOf}
 use Rattle.finishing.specs.Finish.{heldOf, closing, stateDigest, finishAnswer, finishOf, finishBuffer}
 use Rattle.finishing.proofs.Blocking.{chain-length}
-use Rattle.finishing.proofs.Endings.{last-cases}
+use Rattle.finishing.proofs.Endings.{last-max}
 
 -- the digest's size
 pub m-max : (m : ℕ) → allowed m ≡ true → m ≤ 512
@@ -49,8 +49,7 @@ digest-length f m salt x h =
 -- finish compresses one block or two
 pub closing-max : (s : State) (last : LastBits) → length (closing s last) ≤ 2
 unfolding closing
-closing-max s last =
-    last-cases (λ (l : List (ℕ × List ℕ)). length l ≤ 2) (s .family) (s .m) (8 * s .covered .0 + last .count) (messageOf (heldOf s) last) (λ h. omega arith) (λ h. omega arith)
+closing-max s last = last-max (s .family) (s .m) (8 * s .covered .0 + last .count) (messageOf (heldOf s) last)
 
 pub count-max : (s : State) → Sound s → s .compressed ≤ limit
 count-max s ok = omega (arith, ok .within, ok .whole, le-mul-of-pos-right (s .compressed) (block-pos (s .family)))
@@ -83,15 +82,15 @@ module _ (s : State) (last : LastBits) (out : List ℕ) where
       pub size-max : size ≤ 64
       size-max = omega (arith, m-max (s .m) (sound s ok .allowed))
 
-      -- what close, spell, keep and copy_out ensure
-      pub finished : size ≤ length out → length (s .chain) ≡ 16 → {chain bytes digest after : List ℕ} {n : ℕ}
+      -- what close and put_digest ensure
+      pub finished : size ≤ length out → length (s .chain) ≡ 16 → {chain after : List ℕ} {n : ℕ}
           → (chain ≡ chainOver (s .family) (s .salt) (closing s last) (s .chain)) × (n ≡ length (closing s last))
-          → bytes ≡ bytesOf chain → digest ≡ kept (s .m) bytes → after ≡ take size digest ++ drop size out
+          → after ≡ firstBits (s .m) (bytesOf chain) ++ drop (digestBytes (s .m)) out
           → _≡_ {A = Finished} (record { report = report.Covers (s .covered) (last .count) (s .compressed + n); state = s }) (finishOf s last out)
           × (after ≡ finishBuffer s last out)
-      unfolding finishOf finishBuffer stateDigest firstBits
-      finished h sixteen c b d a =
+      unfolding finishOf finishBuffer stateDigest
+      finished h sixteen c a =
           let whole = chainOver (s .family) (s .salt) (closing s last) (s .chain) in
-          let l : length (take (digestBytes (s .m)) (kept (s .m) (bytesOf whole))) ≡ digestBytes (s .m) =
-          unfold firstBits in first-length (s .m) (bytesOf whole) (omega (arith, size-max, bytes-length whole, chain-length (s .family) (s .salt) (closing s last) (s .chain) sixteen)) in
-          (rw (finish-in h, c .1), rw (finish-in h, l) (a ∙ rw (d, b, c .0, es)))
+          let l : length (firstBits (s .m) (bytesOf whole)) ≡ digestBytes (s .m) =
+          first-length (s .m) (bytesOf whole) (omega (arith, size-max, bytes-length whole, chain-length (s .family) (s .salt) (closing s last) (s .chain) sixteen)) in
+          (rw (finish-in h, c .1), rw (finish-in h, l) (a ∙ rw (c .0)))

@@ -4,8 +4,9 @@ use mathlib.Core.Bool.{Bool, true, false, cond}
 use mathlib.Core.List.{List, [], _∷_, _++_, append-assoc}
 use Prim.Native.Nat.{ℕ, _+_, _-_, _*_, _%_, _≤_, _<_}
 use native.Mathlib.Omega.{arith}
+use native.Mathlib.Nat.{mod-lt}
 use lib.Dec.{eqb, leb}
-use lib.ListN.{length, take, set, replicate, length-append, length-replicate, replicate-append-replicate}
+use lib.ListN.{length, take, drop, set, replicate, length-append, length-replicate, replicate-append-replicate}
 use lib.Seq.{sets, take-at}
 use borrow.Author.Tests.{le-leb, lt-leb, leb-true, leb-false}
 use Rattle.family.specs.declared.Family.{Family}
@@ -18,13 +19,12 @@ use Rattle.bits.specs.declared.LastBits.{LastBits}
 use Rattle.bits.specs.Bits.{marked}
 use Rattle.state.specs.declared.State.{State}
 use Rattle.fields.specs.Fields.{le}
-use Rattle.state.specs.Bytes.{fill}
+use Rattle.state.specs.Bytes.{fill, allZero}
 use Rattle.finishing.specs.Blocks.{lastBlock, lastBlocks, chainOver}
 use Rattle.finishing.specs.Finish.{heldOf, closing}
-use Rattle.family.proofs.Sizes.{block-max, limit-place, sizes}
+use Rattle.family.proofs.Sizes.{block-pos, block-max, limit-place, sizes}
 use Rattle.fields.proofs.Numbers.{le-length}
 use Rattle.state.proofs.Filling.{fill-length, fill-put, fill-nil}
-use Rattle.state.proofs.Soundness.{Sound}
 use Rattle.finishing.proofs.Held.{held-length, held-filled}
 use Rattle.fields.proofs.Storing.{sets-sets}
 use Rattle.finishing.proofs.Stores.{sets-take}
@@ -57,7 +57,7 @@ last-stored f m bits xs h =
     sets-take (fill 128 xs) p (u ++ le 2 m) (blockBytes f) (omega (arith, length-append u (le 2 m), le-length (lengthBytes f) bits, le-length 2 m)) (omega (arith, fill-length 128 xs (omega arith)))
     ∙ ap (λ (l : List ℕ). l ++ (u ++ le 2 m)) (fill-cut p 128 xs h (omega arith))
 
-module _ (s : State) (last : LastBits) (ok : Sound s) (full : length (s .held) ≡ 128) where
+module _ (s : State) (last : LastBits) (full : length (s .held) ≡ 128) (zero : allZero (drop (s .covered .0 % blockBytes (s .family)) (s .held)) ≡ true) where
   abbrev f : Family
   f = s .family
 
@@ -77,14 +77,17 @@ module _ (s : State) (last : LastBits) (ok : Sound s) (full : length (s .held) �
   abbrev numbers : List ℕ
   numbers = le (lengthBytes f) bits ++ le 2 (s .m)
 
+  below : r < blockBytes f
+  below = mod-lt (s .covered .0) (block-pos f)
+
   ended-length : length xs ≡ r + 1
   ended-length = omega (arith, length-append (heldOf s) (marked last ∷ []), held-length s full)
 
   -- the block with the last bits and the 1 bit
   ended : set (s .held) r (marked last) ≡ fill 128 xs
   ended =
-      ap (λ (l : List ℕ). set l r (marked last)) (held-filled s full (ok .rest))
-      ∙ (rw (held-length s full) at (fill-put 128 (heldOf s) (marked last) (omega (arith, held-length s full, ok .below, block-max f))))
+      ap (λ (l : List ℕ). set l r (marked last)) (held-filled s full zero)
+      ∙ (rw (held-length s full) at (fill-put 128 (heldOf s) (marked last) (omega (arith, held-length s full, below, block-max f))))
 
   one : restBits ≤ padLimit f → closing s last ≡ (cond (eqb restBits 0) 0 bits, lastBlock f (s .m) bits xs) ∷ []
   unfolding closing lastBlocks
@@ -122,7 +125,7 @@ module _ (s : State) (last : LastBits) (ok : Sound s) (full : length (s .held) �
         let g : padLimit f < restBits = leb-false restBits (padLimit f) (rw (et, known) at h) in
         let e = two g in
         let first : next ≡ compressOf f (s .chain) (fill (blockBytes f) xs) (counterOf bits) (s .salt) =
-        e2 ∙ rw (← compress-block f (s .chain) block c (s .salt), e1, en, filled, fill-cut (blockBytes f) 128 xs (omega (arith, ended-length, ok .below)) (block-max f)) in
+        e2 ∙ rw (← compress-block f (s .chain) block c (s .salt), e1, en, filled, fill-cut (blockBytes f) 128 xs (omega (arith, ended-length, below)) (block-max f)) in
         let behind : take (blockBytes f) padded ≡ lastBlock f (s .m) bits [] =
         rw (e3, ← fill-nil 128) (last-stored f (s .m) bits [] (omega arith)) in
         (rw e (e5 ∙ rw (← compress-block f next padded c₀ (s .salt), e4, behind, first)), rw e)

@@ -6,15 +6,16 @@ use Prim.Native.Nat.{ℕ, _+_, _*_, _/_, _%_, _≤_, _<_}
 use native.Mathlib.Omega.{arith}
 use native.Mathlib.Decide.{decLt}
 use lib.Dec.{eqb, leb}
-use lib.ListN.{length, length-append}
+use lib.ListN.{length, drop, length-append}
 use borrow.Author.Tests.{le-leb, lt-leb}
 use Rattle.family.specs.declared.Family.{Family}
 use Rattle.family.specs.Family.{blockBytes, padLimit}
+use Rattle.compress.proofs.Compressed.{compress-length}
 use Rattle.bits.specs.Bits.{marked}
-use Rattle.bits.specs.Message.{Message, bitLength}
+use Rattle.bits.specs.Message.{Message, messageOf, bitLength}
 use Rattle.state.specs.Bytes.{fill}
-use Rattle.finishing.specs.Blocks.{lastBlock, lastBlocks, blocksOf}
-use Rattle.finishing.proofs.Blocking.{wholeBlocks-length, rest-length}
+use Rattle.finishing.specs.Blocks.{wholeBlocks, lastBlock, lastBlocks, blocksOf, chainOver}
+use Rattle.finishing.proofs.Blocking.{wholeBlocks-length, rest-length, chainOver-append}
 
 -- The end of a message is one block or two.
 pub last-cases : (P : List (ℕ × List ℕ) → Type 0) (f : Family) (m bits : ℕ) (rest : Message)
@@ -28,6 +29,17 @@ last-cases P f m bits rest one two = elim (decLt (padLimit f) (bitLength rest)) 
       let g : bitLength rest ≤ padLimit f = omega arith in
       rw (le-leb (bitLength rest) (padLimit f) g) (one g)
 ]
+
+pub last-max : (f : Family) (m bits : ℕ) (rest : Message) → length (lastBlocks f m bits rest) ≤ 2
+last-max f m bits rest = last-cases (λ (l : List (ℕ × List ℕ)). length l ≤ 2) f m bits rest (λ h. omega arith) (λ h. omega arith)
+
+-- The chain over a message has sixteen words, whatever it started from: there is a last block.
+pub ended-length : (f : Family) (salt : List ℕ) (m : ℕ) (x : Message) (start : List ℕ) → length (chainOver f salt (blocksOf f m x) start) ≡ 16
+unfolding blocksOf chainOver
+ended-length f salt m x start =
+    let n = length (x .bytes) / blockBytes f in
+    rw (chainOver-append f salt (wholeBlocks n (blockBytes f) 0 (x .bytes)) _ start)
+    (last-cases (λ (l : List (ℕ × List ℕ)). length (chainOver f salt l (chainOver f salt (wholeBlocks n (blockBytes f) 0 (x .bytes)) start)) ≡ 16) f m (bitLength x) (messageOf (drop (n * blockBytes f) (x .bytes)) (x .last)) (λ h. compress-length f _ _ _ salt) (λ h. compress-length f _ _ _ salt))
 
 -- document 01's formula by the bit rule: floor(b/B) + 1 where the bits of the rest are at most the limit, else floor(b/B) + 2
 pub count-formula : (f : Family) (m : ℕ) (x : Message)

@@ -5,3 +5,4 @@ pub mod Held
 pub mod Endings
 pub mod Closing
 pub mod Answers
+pub mod Hashing

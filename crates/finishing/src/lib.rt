@@ -2,16 +2,23 @@
 ghost use mathlib.Core.Path.{_≡_};
 ghost use mathlib.Core.Bool.{true, cond};
 ghost use mathlib.Core.List.{_++_};
-ghost use Prim.Native.Nat.{_+_, _*_, _≤_, _<_};
+ghost use mathlib.Core.Logic.{_⊎_};
+ghost use Prim.Native.Nat.{_+_, _*_, _/_, _%_, _≤_, _<_};
 ghost use lib.Dec.{eqb, leb};
-ghost use lib.ListN.{length, set};
+ghost use lib.ListN.{length, take, drop, set, replicate};
 ghost use lib.Seq.{sets};
-ghost use Rattle.family.specs.Family.{padLimit, lengthPlace, lengthBytes};
-ghost use Rattle.bits.specs.Bits.{lastFits, marked};
-ghost use Rattle.fields.specs.Fields.{le};
-ghost use Rattle.state.specs.State.{limit, consistentOf};
-ghost use Rattle.finishing.specs.Blocks.{chainOver};
-ghost use Rattle.finishing.specs.Finish.{closing, finishOf, finishBuffer};
+ghost use Rattle.family.specs.Family.{familyOf, blockBytes, padLimit, lengthPlace, lengthBytes};
+ghost use Rattle.counter.specs.Counter.{counterOf};
+ghost use Rattle.compress.specs.Compression.{compressOf};
+ghost use Rattle.compress.specs.Run.{runOver};
+ghost use Rattle.bits.specs.Bits.{lastFits, marked, digestBytes, firstBits};
+ghost use Rattle.bits.specs.Message.{messageOf};
+ghost use Rattle.fields.specs.Fields.{le, bytesOf};
+ghost use Rattle.state.specs.Bytes.{allZero};
+ghost use Rattle.state.specs.State.{limit};
+ghost use Rattle.finishing.specs.Blocks.{lastBlocks, blocksOf, chainOver};
+ghost use Rattle.finishing.specs.Finish.{finishOf, finishBuffer};
+ghost use Rattle.finishing.specs.Hash.{hashOf, hashBuffer};
 
 mod bytes;
 
@@ -29,7 +36,7 @@ pub struct Finished {
     pub state: State,
 }
 
-// The chain after the last block, and how many blocks that took.
+// The chain after a message's last block, and how many blocks that took.
 struct Closed {
     chain: [u32; 16],
     count: u64,
@@ -84,37 +91,68 @@ fn ended(held: [u8; 128], rest: usize, last: LastBits) -> [u8; 128]
     block
 }
 
-// Pads a copy of the held block and compresses it.
-fn close(form: bool, state: State, last: LastBits) -> Closed
-    requires { ⌜ (consistentOf state ≡ true) × (lastFits last ≡ true) ⌝ }
-    ensures { λ r. ⌜ (r .chain ≡ chainOver (state .family) (state .salt) (closing state last) (state .chain)) × (r .count ≡ length (closing state last)) ⌝ }
+// Takes the chain over the whole blocks of `run`, and then over a block of its end. By the tables these share one naming; byte by byte there is no run.
+fn over(
+    form: bool,
+    family: Family,
+    chain: &mut [u32; 16],
+    run: &[u8],
+    block: &[u8; 128],
+    counter: Counter,
+    salt: &[u8; 64],
+)
+    requires { ⌜ (form ≡ true) ⊎ (length (now run) < blockBytes family) ⌝ }
+    ensures { λ _. ⌜ now (chain .exit) ≡ compressOf family (runOver family (now (salt .entry)) (length (now (run .entry)) / blockBytes family) (counterOf (8 * blockBytes family)) (now (run .entry)) (now (chain .entry))) (now (block .entry)) counter (now (salt .entry)) ⌝ }
 {
-    let family = state.family;
-    let m = state.m;
-    let salt = state.salt;
-    let mut chain = state.chain;
-    let covered = state.covered;
+    if form {
+        let first = Counter::of((8 * family.block_bytes()) as u64);
+        expanded::run_and_block_by_tables(family, chain, run, first, block, counter, salt);
+        return;
+    }
+    chaining::block(form, family, chain, block, counter, salt);
+}
+
+// Takes the chain to a message's end: over the whole blocks of `run`, and then over the held bytes, padded. Returns the number of last blocks.
+fn close(
+    form: bool,
+    family: Family,
+    m: u16,
+    chain: &mut [u32; 16],
+    salt: &[u8; 64],
+    run: &[u8],
+    held: [u8; 128],
+    covered: Length,
+    last: LastBits,
+) -> u64
+    requires { ⌜ (covered .0 ≤ limit) × (lastFits last ≡ true) × (allZero (drop (covered .0 % blockBytes family) held) ≡ true) × ((form ≡ true) ⊎ (length (now run) < blockBytes family)) ⌝ }
+    ensures { λ r. ⌜ (now (chain .exit) ≡ chainOver family (now (salt .entry)) (lastBlocks family m (8 * covered .0 + last .count) (messageOf (take (covered .0 % blockBytes family) held) last)) (runOver family (now (salt .entry)) (length (now (run .entry)) / blockBytes family) (counterOf (8 * blockBytes family)) (now (run .entry)) (now (chain .entry)))) × (r ≡ length (lastBlocks family m (8 * covered .0 + last .count) (messageOf (take (covered .0 % blockBytes family) held) last))) ⌝ }
+{
     let bits = bits_of(covered, last);
     let rest = covered.0 % (family.block_bytes() as u64);
     let rest_bits = bits_of(Length(rest), last);
-    let held = state.held;
     let block = ended(held, rest as usize, last);
     if ends_in_one(family, rest_bits) {
         let padded = with_length(block, family, covered, last, m);
         let counter = Counter::of(last_counter(rest_bits, bits));
-        chaining::block(form, family, &mut chain, &padded, counter, &salt);
-        return Closed {
-            chain: chain,
-            count: 1,
-        };
+        over(form, family, chain, run, &padded, counter, salt);
+        return 1;
     }
-    chaining::block(form, family, &mut chain, &block, Counter::of(bits), &salt);
+    over(form, family, chain, run, &block, Counter::of(bits), salt);
     let padded = with_length([0u8; 128], family, covered, last, m);
-    chaining::block(form, family, &mut chain, &padded, Counter::of(0), &salt);
-    Closed {
-        chain: chain,
-        count: 2,
-    }
+    chaining::block(form, family, chain, &padded, Counter::of(0), salt);
+    2
+}
+
+// The first m bits of a chain go out; the rest of the buffer stays.
+fn put_digest(chain: [u32; 16], m: u16, out: &mut [u8])
+    requires { ⌜ (m ≤ 512) × (digestBytes m ≤ length (now out)) ⌝ }
+    ensures { λ r. ⌜ now (out .exit) ≡ firstBits m (bytesOf chain) ++ drop (digestBytes m) (now (out .entry)) ⌝ }
+{
+    bytes::copy_out(
+        bits::keep(bytes::spell(chain), m),
+        bits::digest_bytes(m),
+        out,
+    );
 }
 
 // Writes the digest of what a state covers and of last bits behind it to the front of the buffer, m/8 bytes rounded up. The state goes on unchanged.
@@ -142,13 +180,83 @@ pub fn finish(form: bool, state: State, last: LastBits, out: &mut [u8]) -> Finis
             state: state,
         };
     }
-    let closed = close(form, state, last);
-    let chain = closed.chain;
-    bytes::copy_out(bits::keep(bytes::spell(chain), m), size, out);
+    let family = state.family;
+    let salt = state.salt;
+    let mut chain = state.chain;
+    let held = state.held;
     let covered = state.covered;
-    let compressed = state.compressed + closed.count;
+    let count = close(form, family, m, &mut chain, &salt, b"", held, covered, last);
+    put_digest(chain, m, out);
+    let compressed = state.compressed + count;
     Finished {
         report: Report::Covers(covered, last.count, compressed),
         state: state,
     }
+}
+
+// The bytes behind a message's whole blocks, with zeros up to 128.
+fn rest_of(bytes: &[u8], from: usize) -> [u8; 128]
+    ensures { λ r. ⌜ r ≡ sets (replicate 128 0) 0 (take 128 (drop from (now (bytes .entry)))) ⌝ }
+{
+    let mut held = [0u8; 128];
+    fields::put_bytes(&mut held, 0, fields::part(bytes, from, 128));
+    held
+}
+
+// The chain over all blocks of a message, by the tables.
+fn chained(m: u16, salt: &[u8; 64], start: &[u32; 16], bytes: &[u8], last: LastBits) -> Closed
+    requires { ⌜ (length (now bytes) ≤ limit) × (lastFits last ≡ true) ⌝ }
+    ensures { λ r. ⌜ (r .chain ≡ chainOver (familyOf m) (now (salt .entry)) (blocksOf (familyOf m) m (messageOf (now (bytes .entry)) last)) (now (start .entry))) × (r .count ≡ length (blocksOf (familyOf m) m (messageOf (now (bytes .entry)) last))) ⌝ }
+{
+    let family = Family::of(m);
+    let size = family.block_bytes();
+    let whole = bytes.len() / size;
+    let held = rest_of(bytes, whole * size);
+    let covered = Length(bytes.len() as u64);
+    let mut chain = *start;
+    let count = close(
+        form::TABLES,
+        family,
+        m,
+        &mut chain,
+        salt,
+        bytes,
+        held,
+        covered,
+        last,
+    );
+    Closed {
+        chain: chain,
+        count: whole as u64 + count,
+    }
+}
+
+// The digest of one message from a chain to start from, under a full salt: one-shot behind its start-up.
+pub fn hash(
+    m: u16,
+    salt: &[u8; 64],
+    start: &[u32; 16],
+    bytes: &[u8],
+    last: LastBits,
+    out: &mut [u8],
+) -> Report
+    ensures result { λ r. ⌜ r ≡ hashOf m (messageOf (now (bytes .entry)) last) (now (out .entry)) ⌝ }
+    ensures buffer { λ r. ⌜ now (out .exit) ≡ hashBuffer m (now (salt .entry)) (now (start .entry)) (messageOf (now (bytes .entry)) last) (now (out .entry)) ⌝ }
+{
+    if !state::is_allowed(m) {
+        return Report::Refused(Refusal::DigestLength);
+    }
+    if bytes.len() as u64 > state::LIMIT {
+        return Report::Refused(Refusal::MessageLimit);
+    }
+    if !last.fits() {
+        return Report::Refused(Refusal::BitsUnfit);
+    }
+    if out.len() < bits::digest_bytes(m) {
+        return Report::Refused(Refusal::BufferShort);
+    }
+    let all = chained(m, salt, start, bytes, last);
+    let chain = all.chain;
+    put_digest(chain, m, out);
+    Report::Covers(Length(bytes.len() as u64), last.count, all.count)
 }

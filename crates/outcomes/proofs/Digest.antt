@@ -14,6 +14,7 @@ use Rattle.finishing.specs.declared.Finished.{Finished}
 use Rattle.state.specs.State.{allowed, consistentOf, zeroState}
 use Rattle.digest.specs.Calls.{beginOf, addOf, oneShotOf, oneShotBuffer}
 use Rattle.finishing.specs.Finish.{finishOf, finishBuffer}
+use Rattle.finishing.specs.Hash.{hashOf, hashBuffer}
 
 pub begin-one : (m : ℕ) (salt : List ℕ) → OneOutcome (λ (r : Step). r ≡ beginOf m salt)
 begin-one m salt = one (beginOf m salt)
@@ -28,6 +29,10 @@ finish-one s last out = one-pair (finishOf s last out) (finishBuffer s last out)
 pub one-shot-one : (m : ℕ) (salt : List ℕ) (x : Message) (out : List ℕ)
     → OneOutcome (λ (o : Report × List ℕ). (o .0 ≡ oneShotOf m salt x out) × (o .1 ≡ oneShotBuffer m salt x out))
 one-shot-one m salt x out = one-pair (oneShotOf m salt x out) (oneShotBuffer m salt x out)
+
+pub hash-one : (m : ℕ) (salt start : List ℕ) (x : Message) (out : List ℕ)
+    → OneOutcome (λ (o : Report × List ℕ). (o .0 ≡ hashOf m x out) × (o .1 ≡ hashBuffer m salt start x out))
+hash-one m salt start x out = one-pair (hashOf m x out) (hashBuffer m salt start x out)
 
 pub consistent-one : (s : State) → OneOutcome (λ (r : Bool). r ≡ consistentOf s)
 consistent-one s = one (consistentOf s)

@@ -1,4 +1,4 @@
--- Each public call of `sbox`, `aes`, `words`, `tables`, `family`, `counter`, `compress`, `expanded`, `chaining` and `startup` has only one outcome.
+-- Each public call of `sbox`, `aes`, `words`, `tables`, `family`, `counter`, `compress`, `expanded`, `chaining` and `starting` has only one outcome.
 use mathlib.Core.Path.{_≡_}
 use mathlib.Core.List.{List}
 use Prim.Native.Nat.{ℕ, _+_, _/_}
@@ -85,6 +85,11 @@ start-one f chain block = compress-one f chain block (counterOf 0) (replicate 64
 -- what `run_by_tables` leaves
 pub run-one : (f : Family) (chain bytes : List ℕ) (c : Counter) (salt : List ℕ) → OneOutcome (λ (r : List ℕ). r ≡ runOver f salt (length bytes / blockBytes f) c bytes chain)
 run-one f chain bytes c salt = one (runOver f salt (length bytes / blockBytes f) c bytes chain)
+
+-- what `run_and_block_by_tables` leaves
+pub run-block-one : (f : Family) (chain bytes : List ℕ) (first : Counter) (block : List ℕ) (c : Counter) (salt : List ℕ)
+    → OneOutcome (λ (r : List ℕ). r ≡ compressOf f (runOver f salt (length bytes / blockBytes f) first bytes chain) block c salt)
+run-block-one f chain bytes first block c salt = compress-one f (runOver f salt (length bytes / blockBytes f) first bytes chain) block c salt
 
 -- `master_value`
 pub master-one : (f : Family) → OneOutcome (λ (r : List ℕ). r ≡ masterOf f)
