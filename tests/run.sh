@@ -144,7 +144,7 @@ sed -nE 's/^    (refused [0-9]+ at [0-9]+)$/\1/p' README.md | cmp - samples/regi
 one_more
 
 # Each program that hashes has the form of the round that it is to have, and no other: first_stage the byte form, the programs for people the tables, and
-# second_opinion both. In first_stage the small family's compression stands apart from the large one's words, and needs little stack.
+# second_opinion both. first_stage needs little stack down to a round: a compression there has neither all its words nor the large family's in a frame.
 rustc -O --edition 2021 tests/stack.rs -o "$made/stack"
 has() { grep -q "^[0-9a-f]* <$1>:$" "$made/functions"; }
 needs() { has "$1" || { echo "tests/run.sh: $program has no $1" >&2 && exit 1; }; }
@@ -156,15 +156,15 @@ for main in crates/*/src/main.rt; do
     "$objdump" -d --no-show-raw-insn "target/bin/$program" >"$made/functions"
     case $program in
         first_stage)
-            lacks expanded::run_by_tables
-            "$made/stack" compress::cipher::small "$(expected stack)" <"$made/functions"
+            lacks expanded::by_tables
+            "$made/stack" main words::aes_round "$(expected stack)" <"$made/functions"
             ;;
         second_opinion)
-            needs expanded::run_by_tables
+            needs expanded::by_tables
             needs compress::cipher::small
             ;;
         *)
-            needs expanded::run_by_tables
+            needs expanded::by_tables
             lacks words::aes_round
             ;;
     esac

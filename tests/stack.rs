@@ -1,10 +1,10 @@
-//! The stack below a function of a built program, from its disassembly.
+//! The stack that a function of a built program takes on the way through another one, from the disassembly.
 //!
-//! Usage: objdump -d --no-show-raw-insn PROGRAM | stack FUNCTION MOST
+//! Usage: objdump -d --no-show-raw-insn PROGRAM | stack FUNCTION THROUGH MOST
 //!
 //! A frame is the return address, what is pushed and what is taken off the stack pointer; below it comes the deepest
-//! chain of calls, a call into the C library counting 8 bytes. Prints the bytes and the chain. Fails where they are more
-//! than MOST, or where no function has that name: then the compiler has put it into its caller.
+//! chain of calls that goes through THROUGH, a call into the C library counting 8 bytes. Prints the bytes and the chain.
+//! Fails where they are more than MOST, or where no chain goes there: then the compiler has put it into its caller.
 
 use std::collections::{BTreeMap, BTreeSet};
 use std::io::Read;
@@ -60,33 +60,32 @@ fn functions(text: &str) -> BTreeMap<String, Function> {
     all
 }
 
-/// The deepest chain from a function down, and its names. None may come back to itself: it would have no depth.
-fn deepest(all: &BTreeMap<String, Function>, name: &str, above: &[&str]) -> (u64, String) {
+/// The deepest chain from a function down that goes through another one, and its names. None may come back to itself: it
+/// would have no depth.
+fn deepest(all: &BTreeMap<String, Function>, name: &str, through: &str, above: &[&str]) -> Option<(u64, String)> {
+    let path: Vec<&str> = above.iter().copied().chain([name]).collect();
     let Some(function) = all.get(name).filter(|_| !name.ends_with("@plt")) else {
-        return (8, name.to_string());
+        return path.contains(&through).then(|| (8, name.to_string()));
     };
     if above.contains(&name) {
         println!("stack: {name} calls itself");
         exit(1);
     }
-    let path: Vec<&str> = above.iter().copied().chain([name]).collect();
-    match function.calls.iter().map(|other| deepest(all, other, &path)).max() {
-        Some((below, chain)) => (function.frame + below, format!("{name} > {chain}")),
-        None => (function.frame, name.to_string()),
+    match function.calls.iter().filter_map(|other| deepest(all, other, through, &path)).max() {
+        Some((below, chain)) => Some((function.frame + below, format!("{name} > {chain}"))),
+        None => path.contains(&through).then(|| (function.frame, name.to_string())),
     }
 }
 
 fn main() {
     let words: Vec<String> = std::env::args().collect();
-    let most: u64 = words[2].parse().expect("a number of bytes");
+    let most: u64 = words[3].parse().expect("a number of bytes");
     let mut text = String::new();
     std::io::stdin().read_to_string(&mut text).expect("a disassembly");
-    let all = functions(&text);
-    if !all.contains_key(&words[1]) {
-        println!("stack: no function {}", words[1]);
+    let Some((bytes, chain)) = deepest(&functions(&text), &words[1], &words[2], &[]) else {
+        println!("stack: no way from {} through {}", words[1], words[2]);
         exit(1);
-    }
-    let (bytes, chain) = deepest(&all, &words[1], &[]);
+    };
     println!("stack: {bytes} bytes, {chain}");
     if bytes > most {
         println!("stack: more than {most}");
