@@ -11,8 +11,6 @@ use borrow.Author.Tests.{lt-ltb, le-ltb}
 use Rattle.family.specs.declared.Family.{Family}
 use Rattle.family.specs.Family.{familyOf, blockBytes}
 use Rattle.family.proofs.Sizes.{block-max}
-use Rattle.counter.specs.Counter.{counterOf}
-use Rattle.compress.specs.Run.{runOver}
 use Rattle.answers.specs.declared.refusal.Refusal.{Refusal}
 use Rattle.answers.specs.declared.refusal.Refusal.the-variants.{DigestLength, MessageLimit, BufferShort, BitsUnfit}
 use Rattle.answers.specs.declared.refusal.Answer.the-variants.{Accepted, Refused}
@@ -27,7 +25,8 @@ use Rattle.fields.proofs.Numbers.{bytes-length}
 use Rattle.state.specs.Bytes.{fill, allZero}
 use Rattle.state.specs.State.{limit, allowed}
 use Rattle.state.proofs.Filling.{fill-take, zero-fill}
-use Rattle.finishing.specs.Blocks.{wholeBlocks, lastBlocks, blocksOf, chainOver}
+use Rattle.finishing.specs.Blocks.{wholeBlocks, blocksOf, chainOver}
+use Rattle.finishing.specs.Finish.{ending, wholeRun}
 use Rattle.finishing.specs.Hash.{hashAnswer, hashOf, hashBuffer}
 use Rattle.finishing.proofs.Answers.{m-max}
 use Rattle.finishing.proofs.Blocking.{wholeBlocks-length, rest-length, rest-small, chainOver-append}
@@ -56,16 +55,13 @@ module _ (f : Family) (xs : List ℕ) where
 
   -- what close ensures, of all bytes as its run
   module _ (m : ℕ) (salt start : List ℕ) (last : LastBits) (room : length xs ≤ limit) {held : List ℕ} (eh : held ≡ fill 128 rest) where
-    abbrev ends : List (ℕ × List ℕ)
-    ends = lastBlocks f m (8 * length xs + last .count) (messageOf (take (length xs % b) held) last)
-
     known : take (length xs % b) held ≡ rest
     known = rw eh (fill-take 128 rest (length xs % b) (rest-length b xs))
 
-    run : runOver f salt n (counterOf (8 * b)) xs start ≡ chainOver f salt (wholeBlocks n b 0 xs) start
+    run : wholeRun f salt xs start ≡ chainOver f salt (wholeBlocks n b 0 xs) start
     run = rw zero-add at (run-chain f salt n 0 xs start (omega (arith, div-mul-le-self (length xs) b)))
 
-    pub chained-over : {chain : List ℕ} {k : ℕ} → (chain ≡ chainOver f salt ends (runOver f salt n (counterOf (8 * b)) xs start)) × (k ≡ length ends)
+    pub chained-over : {chain : List ℕ} {k : ℕ} → (chain ≡ chainOver f salt (ending f m held (length xs) last) (wholeRun f salt xs start)) × (k ≡ length (ending f m held (length xs) last))
         → (chain ≡ chainOver f salt (blocksOf f m (messageOf xs last)) start) × (n + k ≡ length (blocksOf f m (messageOf xs last)))
     unfolding blocksOf
     chained-over e = (e .0 ∙ rw (chainOver-append, run, known), rw (length-append, wholeBlocks-length, e .1, known))

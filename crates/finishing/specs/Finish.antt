@@ -1,10 +1,13 @@
 -- Finish, as a total function of its inputs: its tests in the documents' order, its result, and what its lent buffer holds afterwards.
 use mathlib.Core.Bool.{not}
 use mathlib.Core.List.{List, [], _∷_}
-use Prim.Native.Nat.{ℕ, _+_, _*_, _%_}
+use Prim.Native.Nat.{ℕ, _+_, _*_, _/_, _%_}
 use lib.Dec.{ltb}
 use lib.ListN.{length, take}
+use Rattle.family.specs.declared.Family.{Family}
 use Rattle.family.specs.Family.{blockBytes}
+use Rattle.counter.specs.Counter.{counterOf}
+use Rattle.compress.specs.Run.{runOver}
 use Rattle.answers.specs.declared.refusal.Refusal.the-variants.{StateInconsistent, BufferShort, BitsUnfit}
 use Rattle.answers.specs.declared.refusal.Answer.{Answer}
 use Rattle.answers.specs.Refusal.{judged}
@@ -22,6 +25,14 @@ use Rattle.finishing.specs.Blocks.{lastBlocks, chainOver}
 -- the bytes of a state that are in no whole block yet
 unfoldable pub heldOf : State → List ℕ
 heldOf s = take (s .covered .0 % blockBytes (s .family)) (s .held)
+
+-- The last blocks of a message of n whole bytes, of which those in no whole block stand at the front of held; and the chain over the whole blocks of a
+-- message's bytes.
+abbrev pub ending : Family → ℕ → List ℕ → ℕ → LastBits → List (ℕ × List ℕ)
+ending f m held n last = lastBlocks f m (8 * n + last .count) (messageOf (take (n % blockBytes f) held) last)
+
+abbrev pub wholeRun : Family → List ℕ → List ℕ → List ℕ → List ℕ
+wholeRun f salt xs chain = runOver f salt (length xs / blockBytes f) (counterOf (8 * blockBytes f)) xs chain
 
 -- what finishing a state with last bits compresses, and its digest
 unfoldable pub closing : State → LastBits → List (ℕ × List ℕ)

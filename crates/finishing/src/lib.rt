@@ -8,16 +8,14 @@ ghost use lib.Dec.{eqb, leb};
 ghost use lib.ListN.{length, take, drop, set, replicate};
 ghost use lib.Seq.{sets};
 ghost use Rattle.family.specs.Family.{familyOf, blockBytes, padLimit, lengthPlace, lengthBytes};
-ghost use Rattle.counter.specs.Counter.{counterOf};
 ghost use Rattle.compress.specs.Compression.{compressOf};
-ghost use Rattle.compress.specs.Run.{runOver};
 ghost use Rattle.bits.specs.Bits.{lastFits, marked, digestBytes, firstBits};
 ghost use Rattle.bits.specs.Message.{messageOf};
 ghost use Rattle.fields.specs.Fields.{le, bytesOf};
 ghost use Rattle.state.specs.Bytes.{allZero};
 ghost use Rattle.state.specs.State.{limit};
-ghost use Rattle.finishing.specs.Blocks.{lastBlocks, blocksOf, chainOver};
-ghost use Rattle.finishing.specs.Finish.{finishOf, finishBuffer};
+ghost use Rattle.finishing.specs.Blocks.{blocksOf, chainOver};
+ghost use Rattle.finishing.specs.Finish.{ending, wholeRun, finishOf, finishBuffer};
 ghost use Rattle.finishing.specs.Hash.{hashOf, hashBuffer};
 
 mod bytes;
@@ -102,7 +100,7 @@ fn over(
     salt: &[u8; 64],
 )
     requires { ⌜ (form ≡ true) ⊎ (length (now run) < blockBytes family) ⌝ }
-    ensures { λ _. ⌜ now (chain .exit) ≡ compressOf family (runOver family (now (salt .entry)) (length (now (run .entry)) / blockBytes family) (counterOf (8 * blockBytes family)) (now (run .entry)) (now (chain .entry))) (now (block .entry)) counter (now (salt .entry)) ⌝ }
+    ensures { λ _. ⌜ now (chain .exit) ≡ compressOf family (wholeRun family (now (salt .entry)) (now (run .entry)) (now (chain .entry))) (now (block .entry)) counter (now (salt .entry)) ⌝ }
 {
     if form {
         let first = Counter::of((8 * family.block_bytes()) as u64);
@@ -125,7 +123,7 @@ fn close(
     last: LastBits,
 ) -> u64
     requires { ⌜ (covered .0 ≤ limit) × (lastFits last ≡ true) × (allZero (drop (covered .0 % blockBytes family) held) ≡ true) × ((form ≡ true) ⊎ (length (now run) < blockBytes family)) ⌝ }
-    ensures { λ r. ⌜ (now (chain .exit) ≡ chainOver family (now (salt .entry)) (lastBlocks family m (8 * covered .0 + last .count) (messageOf (take (covered .0 % blockBytes family) held) last)) (runOver family (now (salt .entry)) (length (now (run .entry)) / blockBytes family) (counterOf (8 * blockBytes family)) (now (run .entry)) (now (chain .entry)))) × (r ≡ length (lastBlocks family m (8 * covered .0 + last .count) (messageOf (take (covered .0 % blockBytes family) held) last))) ⌝ }
+    ensures { λ r. ⌜ (now (chain .exit) ≡ chainOver family (now (salt .entry)) (ending family m held (covered .0) last) (wholeRun family (now (salt .entry)) (now (run .entry)) (now (chain .entry)))) × (r ≡ length (ending family m held (covered .0) last)) ⌝ }
 {
     let bits = bits_of(covered, last);
     let rest = covered.0 % (family.block_bytes() as u64);

@@ -1,18 +1,15 @@
 -- One block where the length fits behind the 1 bit, else two: each is compressed as the rule has it, behind the run.
 use mathlib.Core.Path.{_≡_}
-use Prim.Native.Nat.{_*_, _/_, _%_, _≤_, _<_}
+use Prim.Native.Nat.{_%_, _≤_, _<_}
 use native.Mathlib.Omega.{arith}
 use native.Mathlib.Nat.{mod-lt}
 use lib.ListN.{length}
 use borrow.Author.Needs.{needs}
-use Rattle.family.specs.Family.{blockBytes}
 use Rattle.family.proofs.Sizes.{block-pos, block-max}
-use Rattle.counter.specs.Counter.{counterOf}
-use Rattle.compress.specs.Run.{runOver}
 use Rattle.bits.proofs.Fitting.{at-most-7}
 use Rattle.state.specs.declared.State.{State}
 use Rattle.state.specs.State.{limit}
-use Rattle.finishing.specs.Finish.{heldOf, closing}
+use Rattle.finishing.specs.Finish.{heldOf, wholeRun, closing}
 use Rattle.finishing.proofs.Closing.{close-one, close-two}
 use Rattle.finishing.proofs.close.Statement.{statement}
 use Rattle.finishing.proofs.close.Tie as tie
@@ -25,7 +22,7 @@ made c =
       family = a .family;
       m = a .m;
       salt = a .salt .now;
-      chain = runOver (a .family) (a .salt .now) (length (a .run .now) / blockBytes (a .family)) (counterOf (8 * blockBytes (a .family))) (a .run .now) (a .chain .now);
+      chain = wholeRun (a .family) (a .salt .now) (a .run .now) (a .chain .now);
       covered = a .covered;
       compressed = 0;
       held = a .held;
