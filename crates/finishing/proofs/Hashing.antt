@@ -61,7 +61,7 @@ module _ (f : Family) (xs : List ℕ) where
     run : wholeRun f salt xs start ≡ chainOver f salt (wholeBlocks n b 0 xs) start
     run = rw zero-add at (run-chain f salt n 0 xs start (omega (arith, div-mul-le-self (length xs) b)))
 
-    pub chained-over : {chain : List ℕ} {k : ℕ} → (chain ≡ chainOver f salt (ending f m held (length xs) last) (wholeRun f salt xs start)) × (k ≡ length (ending f m held (length xs) last))
+    pub chained-over : {chain : List ℕ} {k : ℕ} → (chain ≡ chainOver f salt (ending f m (length xs) (take (length xs % b) held) last) (wholeRun f salt xs start)) × (k ≡ length (ending f m (length xs) (take (length xs % b) held) last))
         → (chain ≡ chainOver f salt (blocksOf f m (messageOf xs last)) start) × (n + k ≡ length (blocksOf f m (messageOf xs last)))
     unfolding blocksOf
     chained-over e = (e .0 ∙ rw (chainOver-append, run, known), rw (length-append, wholeBlocks-length, e .1, known))

@@ -26,17 +26,17 @@ use Rattle.finishing.specs.Blocks.{lastBlocks, chainOver}
 unfoldable pub heldOf : State → List ℕ
 heldOf s = take (s .covered .0 % blockBytes (s .family)) (s .held)
 
--- The last blocks of a message of n whole bytes, of which those in no whole block stand at the front of held; and the chain over the whole blocks of a
--- message's bytes.
-abbrev pub ending : Family → ℕ → List ℕ → ℕ → LastBits → List (ℕ × List ℕ)
-ending f m held n last = lastBlocks f m (8 * n + last .count) (messageOf (take (n % blockBytes f) held) last)
+-- the last blocks of a message of n whole bytes, of which rest are in no whole block
+abbrev pub ending : Family → ℕ → ℕ → List ℕ → LastBits → List (ℕ × List ℕ)
+ending f m n rest last = lastBlocks f m (8 * n + last .count) (messageOf rest last)
 
+-- the chain over the whole blocks of a message's bytes
 abbrev pub wholeRun : Family → List ℕ → List ℕ → List ℕ → List ℕ
 wholeRun f salt xs chain = runOver f salt (length xs / blockBytes f) (counterOf (8 * blockBytes f)) xs chain
 
 -- what finishing a state with last bits compresses, and its digest
 unfoldable pub closing : State → LastBits → List (ℕ × List ℕ)
-closing s last = lastBlocks (s .family) (s .m) (8 * s .covered .0 + last .count) (messageOf (heldOf s) last)
+closing s last = ending (s .family) (s .m) (s .covered .0) (heldOf s) last
 
 unfoldable pub stateDigest : State → LastBits → List ℕ
 stateDigest s last = firstBits (s .m) (bytesOf (chainOver (s .family) (s .salt) (closing s last) (s .chain)))

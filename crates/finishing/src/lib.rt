@@ -1,9 +1,9 @@
-// The end of a digest: the last bits and the padding, the last blocks, and the digest written out. The state that is finished goes on unchanged.
+// The end of a digest: the last bits and the padding, the last blocks, and the digest written out; of a state, which goes on unchanged, or of one message whole.
 ghost use mathlib.Core.Path.{_≡_};
 ghost use mathlib.Core.Bool.{true, cond};
 ghost use mathlib.Core.List.{_++_};
 ghost use mathlib.Core.Logic.{_⊎_};
-ghost use Prim.Native.Nat.{_+_, _*_, _/_, _%_, _≤_, _<_};
+ghost use Prim.Native.Nat.{_+_, _*_, _%_, _≤_, _<_};
 ghost use lib.Dec.{eqb, leb};
 ghost use lib.ListN.{length, take, drop, set, replicate};
 ghost use lib.Seq.{sets};
@@ -123,7 +123,7 @@ fn close(
     last: LastBits,
 ) -> u64
     requires { ⌜ (covered .0 ≤ limit) × (lastFits last ≡ true) × (allZero (drop (covered .0 % blockBytes family) held) ≡ true) × ((form ≡ true) ⊎ (length (now run) < blockBytes family)) ⌝ }
-    ensures { λ r. ⌜ (now (chain .exit) ≡ chainOver family (now (salt .entry)) (ending family m held (covered .0) last) (wholeRun family (now (salt .entry)) (now (run .entry)) (now (chain .entry)))) × (r ≡ length (ending family m held (covered .0) last)) ⌝ }
+    ensures { λ r. ⌜ (now (chain .exit) ≡ chainOver family (now (salt .entry)) (ending family m (covered .0) (take (covered .0 % blockBytes family) held) last) (wholeRun family (now (salt .entry)) (now (run .entry)) (now (chain .entry)))) × (r ≡ length (ending family m (covered .0) (take (covered .0 % blockBytes family) held) last)) ⌝ }
 {
     let bits = bits_of(covered, last);
     let rest = covered.0 % (family.block_bytes() as u64);
