@@ -1,12 +1,13 @@
 -- The digest's size, and finish's answers: where a test decides, and where none does.
 use mathlib.Core.Path.{_≡_, _∙_}
 use mathlib.Core.Bool.{true, false}
-use mathlib.Core.List.{List, _++_}
+use mathlib.Core.List.{List}
 use Prim.Native.Nat.{ℕ, _+_, _*_, _≤_, _<_}
 use native.Mathlib.Omega.{arith}
 use native.Mathlib.Nat.{le-mul-of-pos-right}
 use lib.Dec.{leb, ltb}
-use lib.ListN.{length, drop}
+use lib.ListN.{length}
+use lib.Seq.{sets}
 use borrow.Author.Tests.{leb-true, lt-ltb, le-ltb}
 use Rattle.family.specs.declared.Family.{Family}
 use Rattle.family.specs.declared.Family.the-variants.{Large}
@@ -25,6 +26,7 @@ use Rattle.bits.specs.Message.{Message, messageOf}
 use Rattle.bits.proofs.Firsts.{first-length}
 use Rattle.fields.specs.Fields.{bytesOf}
 use Rattle.fields.proofs.Numbers.{bytes-length}
+use Rattle.fields.proofs.Storing.{sets-front}
 use Rattle.state.specs.declared.State.{State}
 use Rattle.state.specs.State.{limit, allowed, consistentOf}
 use Rattle.state.proofs.Soundness.{Sound, sound}
@@ -82,10 +84,10 @@ module _ (s : State) (last : LastBits) (out : List ℕ) where
       pub size-max : size ≤ 64
       size-max = omega (arith, m-max (s .m) (sound s ok .allowed))
 
-      -- what close and put_digest ensure
+      -- what close and padding::put_digest ensure
       pub finished : size ≤ length out → length (s .chain) ≡ 16 → {chain after : List ℕ} {n : ℕ}
           → (chain ≡ chainOver (s .family) (s .salt) (closing s last) (s .chain)) × (n ≡ length (closing s last))
-          → after ≡ firstBits (s .m) (bytesOf chain) ++ drop (digestBytes (s .m)) out
+          → after ≡ sets out 0 (firstBits (s .m) (bytesOf chain))
           → _≡_ {A = Finished} (record { report = report.Covers (s .covered) (last .count) (s .compressed + n); state = s }) (finishOf s last out)
           × (after ≡ finishBuffer s last out)
       unfolding finishOf finishBuffer stateDigest
@@ -93,4 +95,4 @@ module _ (s : State) (last : LastBits) (out : List ℕ) where
           let whole = chainOver (s .family) (s .salt) (closing s last) (s .chain) in
           let l : length (firstBits (s .m) (bytesOf whole)) ≡ digestBytes (s .m) =
           first-length (s .m) (bytesOf whole) (omega (arith, size-max, bytes-length whole, chain-length (s .family) (s .salt) (closing s last) (s .chain) sixteen)) in
-          (rw (finish-in h, c .1), rw (finish-in h, l) (a ∙ rw (c .0)))
+          (rw (finish-in h, c .1), rw (finish-in h) (a ∙ rw (c .0) (sets-front out (firstBits (s .m) (bytesOf whole)) (omega (arith, l)))))

@@ -26,16 +26,7 @@ use Rattle.family.proofs.Sizes.{block-pos, block-max, limit-place, sizes}
 use Rattle.fields.proofs.Numbers.{le-length}
 use Rattle.state.proofs.Filling.{fill-length, fill-put, fill-nil}
 use Rattle.finishing.proofs.Held.{held-length, held-filled}
-use Rattle.fields.proofs.Storing.{sets-sets}
 use Rattle.finishing.proofs.Stores.{sets-take}
-
--- with_length
-pub length-stored : (f : Family) (block : List ℕ) (m : ℕ) {n bits : ℕ} {first r : List ℕ} {p k : ℕ} → p ≡ lengthPlace f → k ≡ lengthBytes f → n ≡ bits
-    → first ≡ sets block p (le k n) → r ≡ sets first (p + k) (le 2 m)
-    → r ≡ sets block (lengthPlace f) (le (lengthBytes f) bits ++ le 2 m)
-length-stored f block m {bits = bits} ep ek en e1 e2 =
-    let s = sets-sets block (lengthPlace f) (le (lengthBytes f) bits) (le 2 m) in
-    e2 ∙ rw (e1, ep, ek, en) (rw (le-length (lengthBytes f) bits) at s)
 
 -- zeros cut off
 fill-cut : (p k : ℕ) (xs : List ℕ) → length xs ≤ p → p ≤ k → take p (fill k xs) ≡ fill p xs
@@ -74,9 +65,6 @@ module _ (s : State) (last : LastBits) (full : length (s .held) ≡ 128) (zero :
   abbrev xs : List ℕ
   xs = heldOf s ++ (marked last ∷ [])
 
-  abbrev numbers : List ℕ
-  numbers = le (lengthBytes f) bits ++ le 2 (s .m)
-
   below : r < blockBytes f
   below = mod-lt (s .covered .0) (block-pos f)
 
@@ -107,18 +95,18 @@ module _ (s : State) (last : LastBits) (full : length (s .held) ≡ 128) (zero :
     filled = eb ∙ rw es ended
 
     pub close-one : t ≡ true → {padded done : List ℕ} {low : ℕ} {counter : Counter}
-        → padded ≡ sets block (lengthPlace f) numbers
+        → padded ≡ sets block (lengthPlace f) (le (lengthBytes f) n ++ le 2 (s .m))
         → low ≡ cond (eqb k 0) 0 n → counter ≡ counterOf low → done ≡ compressOf f (s .chain) padded counter (s .salt)
         → (done ≡ chainOver f (s .salt) (closing s last) (s .chain)) × (1 ≡ length (closing s last))
     unfolding chainOver
     close-one h {padded = padded} {counter = counter} e1 e2 e3 e4 =
         let g : restBits ≤ padLimit f = leb-true restBits (padLimit f) (rw (et, known) at h) in
         let e = one g in
-        (rw e (e4 ∙ rw (← compress-block f (s .chain) padded counter (s .salt), e3, e2, known, en, e1, filled, last-stored f (s .m) bits xs (omega (arith, ended-length, limit-place f)))), rw e)
+        (rw e (e4 ∙ rw (← compress-block f (s .chain) padded counter (s .salt), e3, e2, known, e1, en, filled, last-stored f (s .m) bits xs (omega (arith, ended-length, limit-place f)))), rw e)
 
     pub close-two : t ≡ false → {next padded done : List ℕ} {c c₀ : Counter}
         → c ≡ counterOf n → next ≡ compressOf f (s .chain) block c (s .salt)
-        → padded ≡ sets (replicate 128 0) (lengthPlace f) numbers → c₀ ≡ counterOf 0 → done ≡ compressOf f next padded c₀ (s .salt)
+        → padded ≡ sets (replicate 128 0) (lengthPlace f) (le (lengthBytes f) n ++ le 2 (s .m)) → c₀ ≡ counterOf 0 → done ≡ compressOf f next padded c₀ (s .salt)
         → (done ≡ chainOver f (s .salt) (closing s last) (s .chain)) × (2 ≡ length (closing s last))
     unfolding chainOver
     close-two h {next} {padded} {c = c} {c₀} e1 e2 e3 e4 e5 =
@@ -127,5 +115,5 @@ module _ (s : State) (last : LastBits) (full : length (s .held) ≡ 128) (zero :
         let first : next ≡ compressOf f (s .chain) (fill (blockBytes f) xs) (counterOf bits) (s .salt) =
         e2 ∙ rw (← compress-block f (s .chain) block c (s .salt), e1, en, filled, fill-cut (blockBytes f) 128 xs (omega (arith, ended-length, below)) (block-max f)) in
         let behind : take (blockBytes f) padded ≡ lastBlock f (s .m) bits [] =
-        rw (e3, ← fill-nil 128) (last-stored f (s .m) bits [] (omega arith)) in
+        rw (e3, en, ← fill-nil 128) (last-stored f (s .m) bits [] (omega arith)) in
         (rw e (e5 ∙ rw (← compress-block f next padded c₀ (s .salt), e4, behind, first)), rw e)

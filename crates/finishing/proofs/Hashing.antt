@@ -1,7 +1,7 @@
 -- A message from its starting chain: its whole blocks as a run, and its rest as a held block. Then the answers of hash.
 use mathlib.Core.Path.{_≡_, _∙_}
 use mathlib.Core.Bool.{true, false}
-use mathlib.Core.List.{List, _++_}
+use mathlib.Core.List.{List}
 use Prim.Native.Nat.{ℕ, _+_, _*_, _/_, _%_, _≤_, _<_}
 use native.Mathlib.Omega.{arith}
 use native.Mathlib.Nat.{zero-add, div-mul-le-self}
@@ -22,6 +22,7 @@ use Rattle.bits.specs.Message.{Message, messageOf}
 use Rattle.bits.proofs.Firsts.{first-length}
 use Rattle.fields.specs.Fields.{bytesOf}
 use Rattle.fields.proofs.Numbers.{bytes-length}
+use Rattle.fields.proofs.Storing.{sets-front}
 use Rattle.state.specs.Bytes.{fill, allZero}
 use Rattle.state.specs.State.{limit, allowed}
 use Rattle.state.proofs.Filling.{fill-take, zero-fill}
@@ -97,13 +98,13 @@ module _ (m : ℕ) (salt start xs : List ℕ) (last : LastBits) (out : List ℕ)
         unfolding hashAnswer
         hash-in h = rw (ok, le-ltb limit (length xs) room, fits, ← es, le-ltb (length out) size h)
 
-        -- what chained and put_digest ensure
+        -- what chained and padding::put_digest ensure
         pub hashed : size ≤ length out → {chain after : List ℕ} {k : ℕ}
             → (chain ≡ chainOver (familyOf m) salt (blocksOf (familyOf m) m x) start) × (k ≡ length (blocksOf (familyOf m) m x))
-            → after ≡ firstBits m (bytesOf chain) ++ drop (digestBytes m) out
+            → after ≡ sets out 0 (firstBits m (bytesOf chain))
             → _≡_ {A = Report} (report.Covers (record { 0 = length xs }) (last .count) k) (hashOf m x out) × (after ≡ hashBuffer m salt start x out)
         unfolding hashOf hashBuffer
         hashed h e a =
             let whole = chainOver (familyOf m) salt (blocksOf (familyOf m) m x) start in
             let l : length (firstBits m (bytesOf whole)) ≡ digestBytes m = first-length m (bytesOf whole) (omega (arith, m-max m ok, bytes-length whole, ended-length (familyOf m) salt m x start)) in
-            (rw (hash-in h, e .1), rw (hash-in h, l) (a ∙ rw (e .0)))
+            (rw (hash-in h, e .1), rw (hash-in h) (a ∙ rw (e .0) (sets-front out (firstBits m (bytesOf whole)) (omega (arith, l)))))

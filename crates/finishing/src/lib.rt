@@ -1,25 +1,19 @@
 // The end of a digest: the last bits and the padding, the last blocks, and the digest written out; of a state, which goes on unchanged, or of one message whole.
 ghost use mathlib.Core.Path.{_≡_};
-ghost use mathlib.Core.Bool.{true, cond};
-ghost use mathlib.Core.List.{_++_};
+ghost use mathlib.Core.Bool.{true};
 ghost use mathlib.Core.Logic.{_⊎_};
 ghost use Prim.Native.Nat.{_+_, _*_, _%_, _≤_, _<_};
-ghost use lib.Dec.{eqb, leb};
 ghost use lib.ListN.{length, take, drop, set, replicate};
 ghost use lib.Seq.{sets};
-ghost use Rattle.family.specs.Family.{familyOf, blockBytes, padLimit, lengthPlace, lengthBytes};
+ghost use Rattle.family.specs.Family.{familyOf, blockBytes};
 ghost use Rattle.compress.specs.Compression.{compressOf};
-ghost use Rattle.bits.specs.Bits.{lastFits, marked, digestBytes, firstBits};
+ghost use Rattle.bits.specs.Bits.{lastFits, marked};
 ghost use Rattle.bits.specs.Message.{messageOf};
-ghost use Rattle.fields.specs.Fields.{le, bytesOf};
 ghost use Rattle.state.specs.Bytes.{allZero};
 ghost use Rattle.state.specs.State.{limit};
 ghost use Rattle.finishing.specs.Blocks.{blocksOf, chainOver};
 ghost use Rattle.finishing.specs.Finish.{ending, wholeRun, finishOf, finishBuffer};
 ghost use Rattle.finishing.specs.Hash.{hashOf, hashBuffer};
-
-mod bytes;
-
 use answers::Refusal;
 use bits::LastBits;
 use counter::Counter;
@@ -46,37 +40,6 @@ fn bits_of(covered: Length, last: LastBits) -> u64
     ensures { λ r. ⌜ r ≡ 8 * covered .0 + last .count ⌝ }
 {
     8 * covered.0 + last.count as u64
-}
-
-// The counter of the only last block, which has so many bits of rest: 0 where it holds padding only.
-fn last_counter(rest: u64, bits: u64) -> u64
-    ensures { λ r. ⌜ r ≡ cond (eqb rest 0) 0 bits ⌝ }
-{
-    if rest == 0 { 0 } else { bits }
-}
-
-// Puts the message length in bits and m at a block's end.
-fn with_length(
-    block: [u8; 128],
-    family: Family,
-    covered: Length,
-    last: LastBits,
-    m: u16,
-) -> [u8; 128]
-    requires { ⌜ (covered .0 ≤ limit) × (last .count ≤ 7) ⌝ }
-    ensures { λ r. ⌜ r ≡ sets block (lengthPlace family) (le (lengthBytes family) (8 * covered .0 + last .count) ++ le 2 m) ⌝ }
-{
-    let at = family.length_place();
-    let field = family.length_bytes();
-    let first = bytes::put_le(block, at, bits_of(covered, last), field);
-    bytes::put_le(first, at + field, m as u64, 2)
-}
-
-// Whether the length and m fit into the block behind so many bits of rest and the 1 bit.
-fn ends_in_one(family: Family, rest: u64) -> bool
-    ensures { λ r. ⌜ r ≡ leb rest (padLimit family) ⌝ }
-{
-    rest <= family.pad_limit() as u64
 }
 
 // The held block with the last bits and the 1 bit behind its bytes.
@@ -129,28 +92,16 @@ fn close(
     let rest = covered.0 % (family.block_bytes() as u64);
     let rest_bits = bits_of(Length(rest), last);
     let block = ended(held, rest as usize, last);
-    if ends_in_one(family, rest_bits) {
-        let padded = with_length(block, family, covered, last, m);
-        let counter = Counter::of(last_counter(rest_bits, bits));
+    if padding::ends_in_one(family, rest_bits) {
+        let padded = padding::with_length(block, family, bits, m);
+        let counter = Counter::of(padding::last_counter(rest_bits, bits));
         over(form, family, chain, run, &padded, counter, salt);
         return 1;
     }
     over(form, family, chain, run, &block, Counter::of(bits), salt);
-    let padded = with_length([0u8; 128], family, covered, last, m);
+    let padded = padding::with_length([0u8; 128], family, bits, m);
     chaining::block(form, family, chain, &padded, Counter::of(0), salt);
     2
-}
-
-// The first m bits of a chain go out; the rest of the buffer stays.
-fn put_digest(chain: [u32; 16], m: u16, out: &mut [u8])
-    requires { ⌜ (m ≤ 512) × (digestBytes m ≤ length (now out)) ⌝ }
-    ensures { λ r. ⌜ now (out .exit) ≡ firstBits m (bytesOf chain) ++ drop (digestBytes m) (now (out .entry)) ⌝ }
-{
-    bytes::copy_out(
-        bits::keep(bytes::spell(chain), m),
-        bits::digest_bytes(m),
-        out,
-    );
 }
 
 // Writes the digest of what a state covers and of last bits behind it to the front of the buffer, m/8 bytes rounded up. The state goes on unchanged.
@@ -184,7 +135,7 @@ pub fn finish(form: bool, state: State, last: LastBits, out: &mut [u8]) -> Finis
     let held = state.held;
     let covered = state.covered;
     let count = close(form, family, m, &mut chain, &salt, b"", held, covered, last);
-    put_digest(chain, m, out);
+    padding::put_digest(chain, m, out);
     let compressed = state.compressed + count;
     Finished {
         report: Report::Covers(covered, last.count, compressed),
@@ -255,6 +206,6 @@ pub fn hash(
     }
     let all = chained(m, salt, start, bytes, last);
     let chain = all.chain;
-    put_digest(chain, m, out);
+    padding::put_digest(chain, m, out);
     Report::Covers(Length(bytes.len() as u64), last.count, all.count)
 }

@@ -16,7 +16,7 @@ use Rattle.state.specs.State.{consistentOf}
 use Rattle.state.proofs.Soundness.{Sound, sound}
 use Rattle.answers.proofs.Tests.{fell, held}
 use Rattle.finishing.specs.Finish.{heldOf, closing}
-use Rattle.finishing.proofs.Answers.{m-max, closing-max, count-max, finish-not, finish-unfit, finish-short, finish-refused, finished}
+use Rattle.finishing.proofs.Answers.{closing-max, count-max, finish-not, finish-unfit, finish-short, finish-refused, finished}
 use Rattle.finishing.proofs.finish.Statement.{statement}
 use Rattle.finishing.proofs.finish.Tie as tie
 
@@ -64,11 +64,6 @@ close-requires c κs =
     let k = known g in
     (k .within, fits (g .before .before), k .rest, inr (block-pos (first g .before .before .before .args .state .family)))
 
-put-digest-requires : tie.Need-put-digest-requires
-put-digest-requires c κs =
-    let g = room (c .before .before) in
-    (m-max _ (known g .allowed), omega (arith, g .before .digest-bytes .ensures, g .if3 .left))
-
 add-compressed : tie.Need-add-compressed
 unfolding closing heldOf
 add-compressed c =
@@ -101,7 +96,7 @@ finish-spec =
     returns-3
     (λ c. search needs)
     close-requires
-    put-digest-requires
+    (λ c κs. search needs)
     add-compressed
     (λ c. search needs)
     returns-4)

@@ -1,12 +1,10 @@
 -- The tests are the rule's, in its order; then the chain is taken over all blocks, and its first m bits are put.
 use mathlib.Core.Path.{_≡_}
 use mathlib.Core.Bool.{true}
-use native.Mathlib.Omega.{arith}
 use borrow.Author.Needs.{needs}
 use Rattle.bits.specs.Bits.{lastFits}
 use Rattle.state.specs.State.{allowed}
 use Rattle.answers.proofs.Tests.{fell, held}
-use Rattle.finishing.proofs.Answers.{m-max}
 use Rattle.finishing.proofs.Hashing.{hash-refused, hash-length, hash-over, hash-unfit, hash-short, hashed}
 use Rattle.finishing.proofs.hash.Statement.{statement}
 use Rattle.finishing.proofs.hash.Tie as tie
@@ -55,11 +53,6 @@ chained-requires c κs =
     let h = c .before .before in
     (h .before .before .if2 .left, fits h)
 
-put-digest-requires : tie.Need-put-digest-requires
-put-digest-requires c κs =
-    let k = c .before .before .before in
-    (m-max _ (ok (k .before .before .before .before .before)), omega (arith, k .before .digest-bytes .ensures, k .if4 .left))
-
 returns-5 : tie.Need-returns-5
 returns-5 c =
     let k = c .before .before .before .before .before in
@@ -83,6 +76,6 @@ hash-spec =
     (λ c κs. search needs)
     returns-4
     chained-requires
-    put-digest-requires
+    (λ c κs. search needs)
     (λ c. search needs)
     returns-5)

@@ -1,7 +1,7 @@
 -- The test is against the family's limit.
 use borrow.Author.Needs.{needs}
-use Rattle.finishing.proofs.ends_in_one.Statement.{statement}
-use Rattle.finishing.proofs.ends_in_one.Tie as tie
+use Rattle.padding.proofs.ends_in_one.Statement.{statement}
+use Rattle.padding.proofs.ends_in_one.Tie as tie
 
 returns : tie.Need-returns
 returns c = rw (c .pad-limit .ensures)

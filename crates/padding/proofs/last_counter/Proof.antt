@@ -1,7 +1,7 @@
 -- The test is the rule's.
 use borrow.Author.Tests.{eq-eqb, ne-eqb}
-use Rattle.finishing.proofs.last_counter.Statement.{statement}
-use Rattle.finishing.proofs.last_counter.Tie as tie
+use Rattle.padding.proofs.last_counter.Statement.{statement}
+use Rattle.padding.proofs.last_counter.Tie as tie
 
 returns : tie.Need-returns
 returns c = rw (eq-eqb _ _ (c .if1 .taken))

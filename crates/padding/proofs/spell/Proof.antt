@@ -1,8 +1,8 @@
 -- The words' bytes fill the array.
 use borrow.Author.Needs.{needs}
-use Rattle.finishing.proofs.Stores.{spelled}
-use Rattle.finishing.proofs.bytes.spell.Statement.{statement}
-use Rattle.finishing.proofs.bytes.spell.Tie as tie
+use Rattle.padding.proofs.Stores.{spelled}
+use Rattle.padding.proofs.spell.Statement.{statement}
+use Rattle.padding.proofs.spell.Tie as tie
 
 pub spell-spec : {M : Type 1} → statement M
 spell-spec =
