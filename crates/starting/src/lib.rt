@@ -4,6 +4,7 @@ ghost use Rattle.family.specs.declared.Family.the-variants.{Small, Large};
 ghost use Rattle.startup.specs.Startup.{masterOf, startOf};
 use family::Family;
 
+// Source 003's master values and tables 2 and 3, as `startup` has them; a small chain has eight words, and zeros behind them.
 const MASTER_SMALL: [u32; 16] = [
     0xaccf8f80,
     0x96589e66,
