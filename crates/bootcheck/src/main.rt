@@ -1,4 +1,5 @@
 // Prints the check of the log on standard input.
+#![tactic(auto)]
 use libc::STDIN_FILENO;
 
 fn main() {

@@ -1,4 +1,5 @@
 // Prints, for each file that an argument names, the name and the check of the log in the file.
+#![tactic(auto)]
 use libc::STDOUT_FILENO;
 
 fn check_file(name: &[u8]) {

@@ -1,4 +1,5 @@
 // chimbersu: one program for people at the ward and the desk. Its first word is the command, and each command has a module of its own.
+#![tactic(auto)]
 mod asked;
 mod files;
 mod mac;

@@ -1,4 +1,5 @@
 // Numbers spelled in decimal, read.
+#![tactic(auto)]
 ghost use Rattle.std.specs.Prelude.{◌≡◌};
 ghost use Rattle.decimal.specs.Decimal.{is_digit, number_of};
 

@@ -1,4 +1,5 @@
 // The running digest: begin, add, finish and one-shot. Finish stands in a crate below and is passed on.
+#![tactic(auto)]
 mod bytes;
 mod calls;
 

@@ -4,7 +4,7 @@ use mathlib.Core.Bool.{Bool, true, false, cond, false≢true}
 use mathlib.Core.List.{List, [], ◌∷◌}
 use Prim.Native.Nat.{ℕ, ◌+◌, ◌<◌}
 use native.Mathlib.Omega.{arith}
-use native.Mathlib.Numerals.{add_one}
+use native.Mathlib.Numerals.{add-one}
 use lib.Dec.{eqb}
 use lib.ListN.{length, drop, get_or, drop_of_length-le}
 use lib.Seq.{drop-cons}
@@ -40,7 +40,7 @@ module _ (xs ys : List ℕ) (i : ℕ) where
   module _ (h : i < length xs) (g : i < length ys) where
     pub same_more : get_or xs i 0 ≡ get_or ys i 0 → same (drop i xs) (drop i ys) ≡ same (drop (i + 1) xs) (drop (i + 1) ys)
     unfolding same
-    same_more e = rw (add_one i, drop-cons xs i 0 h, drop-cons ys i 0 g, eq-eqb (get_or xs i 0) (get_or ys i 0) e)
+    same_more e = rw (add-one i, drop-cons xs i 0 h, drop-cons ys i 0 g, eq-eqb (get_or xs i 0) (get_or ys i 0) e)
 
     pub same_apart : (get_or xs i 0 ≡ get_or ys i 0 → ⊥) → same (drop i xs) (drop i ys) ≡ false
     unfolding same

@@ -4,7 +4,7 @@ use mathlib.Core.List.{List, [], ◌∷◌, ◌++◌}
 use Prim.Native.Nat.{ℕ, zero, suc, ◌+◌, ◌*◌, ◌/◌, ◌%◌, ◌^◌, ◌≤◌, ◌<◌}
 use native.Mathlib.Omega.{arith}
 use native.Mathlib.Nat.{pow-suc}
-use native.Mathlib.Numerals.{add_one}
+use native.Mathlib.Numerals.{add-one}
 use lib.ListN.{length, get_or, take, drop, length-append, get_or-append}
 use lib.Seq.{drop-cons, get_or-append-add}
 use Rattle.fields.specs.Fields.{le, bytes_of, number_in, number_at}
@@ -36,7 +36,7 @@ number_spelled l b (suc k) i h =
     let n = number_in k l (i + 1) in
     let low : (get_or l i 0 + 256 * n) % 256 ≡ get_or l i 0 = omega (arith, b i) in
     let high : (get_or l i 0 + 256 * n) / 256 ≡ n = omega (arith, b i) in
-    rw (drop-cons l i 0 (omega arith), ← add_one i) (ap₂ (λ (x : ℕ) (r : List ℕ). x ∷ r) low (ap (le k) high ∙ number_spelled l b k (i + 1) (omega arith)))
+    rw (drop-cons l i 0 (omega arith), ← add-one i) (ap₂ (λ (x : ℕ) (r : List ℕ). x ∷ r) low (ap (le k) high ∙ number_spelled l b k (i + 1) (omega arith)))
 
 -- a number behind xs
 pub number_behind : (k : ℕ) (xs ys : List ℕ) (j : ℕ) → number_in k (xs ++ ys) (length xs + j) ≡ number_in k ys j

@@ -5,7 +5,7 @@ use Prim.Native.Nat.{ℕ, suc, ◌+◌, ◌-◌, ◌/◌, ◌%◌, ◌≤◌, �
 use native.Mathlib.Omega.{arith}
 use native.Mathlib.Decide.{dec_lt}
 use native.Mathlib.Nat.{zero-add}
-use native.Mathlib.Numerals.{add_one}
+use native.Mathlib.Numerals.{add-one}
 use lib.ListN.{length, get_or, drop, set, drop_of_length-le}
 use lib.Seq.{sets, sets-eq, set_out, set-set, set_comm, drop-cons}
 use Rattle.fields.specs.Fields.{le, bytes_of}
@@ -21,7 +21,7 @@ module _ (out : List ℕ) (to : ℕ) where
   unfolding le
   number_step left value h =
       let e : left ≡ suc (left - 1) = omega arith in
-      rw add_one (ap (λ (k : ℕ). sets out to (le k value)) e)
+      rw add-one (ap (λ (k : ℕ). sets out to (le k value)) e)
 
   pub number_end : (left value : ℕ) → left ≤ 0 → sets out to (le left value) ≡ out
   unfolding le
@@ -74,7 +74,7 @@ pub words_step : (out : List ℕ) (to : ℕ) (words : List ℕ) (j : ℕ) → j 
 unfolding bytes_of
 words_step out to words j h =
     let w = get_or words j 0 in
-    rw (drop-cons words j 0 h, add_one j) (sym (rw (le_length 4 w) at (sets_sets out to (le 4 w) (bytes_of (drop (suc j) words)))))
+    rw (drop-cons words j 0 h, add-one j) (sym (rw (le_length 4 w) at (sets_sets out to (le 4 w) (bytes_of (drop (suc j) words)))))
 
 pub words_end : (out : List ℕ) (to : ℕ) (words : List ℕ) (j : ℕ) → length words ≤ j → sets out to (bytes_of (drop j words)) ≡ out
 unfolding bytes_of

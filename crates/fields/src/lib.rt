@@ -1,5 +1,7 @@
 // Numbers, words and bytes at a place of a slice: the fields of a log, a saved form, a text or a block. What is past the end counts as 0 where a number
 // is read, and as nothing where bytes are taken or put, so that no call relies on a check by its caller.
+#![tactic(auto)]
+
 ghost use Rattle.std.specs.Prelude.{◌≡◌, ◌<◌, min, get_or, take, drop};
 ghost use Rattle.std.proofs.lemmas.List.Edits.{sets};
 ghost use Rattle.fields.specs.Fields.{le, bytes_of, number_at, same};

@@ -1,4 +1,5 @@
 // Prints the state after round 1 of FIPS 197's appendix B, column by column; the file stdout holds the standard's printed bytes.
+#![tactic(auto)]
 use libc::STDOUT_FILENO;
 
 fn print_column(a: [u8; 4]) {

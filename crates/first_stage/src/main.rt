@@ -1,5 +1,6 @@
 // The first loader's part: adds standard input to a 256-bit digest under the zero salt, and writes the saved form of its state to
 // standard output, for the second to go on with.
+#![tactic(auto)]
 use answers::{Answer, Written};
 use family::SmallFamily;
 use libc::{STDERR_FILENO, STDOUT_FILENO};

@@ -1,4 +1,5 @@
 // Which form of the AES round a caller wants: one word at the call. No contract depends on it.
+#![tactic(auto)]
 
 // Byte by byte, by the S-box and the columns' mixing: little stack and no tables. The first loader's.
 pub const BYTES: bool = false;

@@ -1,4 +1,5 @@
 // Bytes spelled in hex, read.
+#![tactic(auto)]
 ghost use Rattle.std.specs.Prelude.{◌≡◌, true, ◌++◌, ◌*◌, ◌/◌, ◌≤◌, length, drop};
 ghost use Rattle.hex.specs.Hex.{digit_value, digits, pairs, is_hex, decode_of, decode_buffer};
 

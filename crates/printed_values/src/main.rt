@@ -1,5 +1,6 @@
 // Prints every value that source 003 prints, computed: master values, starting values and appendix digests, one a line, as words in
 // upper-case hex. Four lines follow with what the rule gives where the appendix departs from it.
+#![tactic(auto)]
 ghost use Rattle.std.specs.Prelude.{◌≤◌};
 
 mod lines;

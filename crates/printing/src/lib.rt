@@ -1,4 +1,5 @@
 // Reads a log from an open file and writes the text of its check to standard output, for the programs that do so.
+#![tactic(auto)]
 use libc::STDOUT_FILENO;
 
 // One byte more than the longest log has: what is longer is refused by it.

@@ -1,5 +1,6 @@
 // shavite3sum [M [SALT-HEX]]: digests standard input, of any length, in constant memory. It prints the M-bit digest in hex, the bytes
 // covered and the blocks compressed, or "refused" and the refusal's number. M is 256 where it is not given.
+#![tactic(auto)]
 mod arguments;
 mod output;
 

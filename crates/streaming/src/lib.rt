@@ -1,4 +1,5 @@
 // What the programs that digest standard input share: a part of the input read, all of it added to a running digest, and the line of a refusal.
+#![tactic(auto)]
 use answers::{Answer, Refusal};
 use libc::STDIN_FILENO;
 use state::State;
