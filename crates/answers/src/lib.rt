@@ -1,5 +1,6 @@
 // What the calls answer: refusals with their numbers, the answer of a call that hands back a state, and that of one that writes.
 #![tactic(auto)]
+
 mod refusal;
 mod written;
 

@@ -1,5 +1,5 @@
 // The words behind a command: up to two names, an option that has a word behind it, and a flag.
-use hex::Decoded;
+use hex_bytes::Decoded;
 
 // Which argument is which, 0 where it is not given: the names, and the word behind the option; whether the flag is given; whether the option's word is
 // still to come; whether some word was one too many or unknown.
@@ -134,5 +134,5 @@ pub(crate) fn hex_word(i: usize, out: &mut [u8]) -> Decoded {
     if os::errno() != 0 {
         return Decoded::NoRoom;
     }
-    hex::decode(&text[..size], out)
+    hex_bytes::decode(&text[..size], out)
 }

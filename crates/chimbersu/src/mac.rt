@@ -4,7 +4,7 @@ use crate::files::Loaded;
 use crate::{asked, files, message, saying};
 use answers::Answer;
 use decimal::Number;
-use hex::Decoded;
+use hex_bytes::Decoded;
 use keyed_state::Keyed;
 use streaming::Status;
 

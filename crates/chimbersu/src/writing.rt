@@ -3,7 +3,7 @@ use crate::asked::Asked;
 use crate::files::Loaded;
 use crate::{asked, files, saying};
 use answers::Written;
-use hex::Decoded;
+use hex_bytes::Decoded;
 
 // One byte more than the most registers and events have: what is longer is refused by it.
 const REGISTERS: usize = 32 * layout::MOST_REGISTERS + 1;

@@ -1,5 +1,6 @@
 // The bit counter: a type of its own, apart from the message length.
 #![tactic(auto)]
+
 ghost use Rattle.std.specs.Prelude.{◌≡◌, ◌+◌, ◌*◌, ◌^◌, ◌<◌, ◌≤◌};
 ghost use Rattle.counter.specs.Counter.{number_of, counter_of};
 

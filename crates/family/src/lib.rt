@@ -1,5 +1,6 @@
 // The two families, and their numbers: document 01's table, named here and nowhere else.
 #![tactic(auto)]
+
 ghost use Rattle.std.specs.Prelude.{◌≡◌};
 ghost use Rattle.family.specs.Family.{family_of, family_number, block_bytes, chain_words, salt_bytes, length_bytes, pad_limit, length_place, block_words, near_distance, salt_quads, runs};
 

@@ -8,8 +8,8 @@ use Rattle.outcome.proofs.Outcome.{one, one_pair}
 use Rattle.answers.specs.declared.written.Written.{Written}
 use Rattle.text.specs.Digits.{hex_of, upper_of, decimal_of}
 use Rattle.text.specs.Place.{placed, place_after}
-use Rattle.hex.specs.declared.Decoded.{Decoded}
-use Rattle.hex.specs.Hex.{decode_of, decode_buffer}
+use Rattle.hex_bytes.specs.declared.Decoded.{Decoded}
+use Rattle.hex_bytes.specs.Hex.{decode_of, decode_buffer}
 use Rattle.decimal.specs.declared.Number.{Number}
 use Rattle.decimal.specs.Decimal.{number_of}
 use Rattle.printout.specs.Printout.{printout_of, print_of}

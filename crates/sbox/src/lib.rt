@@ -4,6 +4,7 @@ ghost use Rattle.std.specs.Prelude.{◌≡◌};
 ghost use Rattle.sbox.specs.Sbox.{sbox_of};
 
 // The S-box's entry for a byte.
+#[tactic(auto, unfolding(crate::specs::Sbox::sbox_of, crate::specs::Sbox::sbox_table))]
 pub fn sub(x: u8) -> u8
     ensures { result ≡ sbox_of x }
 {

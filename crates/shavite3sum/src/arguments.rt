@@ -1,6 +1,6 @@
 // The program's arguments. `count` has the program's own name among them.
 use decimal::Number;
-use hex::Decoded;
+use hex_bytes::Decoded;
 
 #[derive(Drop)]
 pub enum Salt {
@@ -32,7 +32,7 @@ pub(crate) fn salt_bytes(count: usize, salt: &mut [u8]) -> Salt {
     if os::errno() != 0 {
         return Salt::Long;
     }
-    match hex::decode(&text[..n], salt) {
+    match hex_bytes::decode(&text[..n], salt) {
         Decoded::Bytes(size) => Salt::Bytes(size),
         Decoded::NotHex => Salt::Digits,
         Decoded::NoRoom => Salt::Long,
