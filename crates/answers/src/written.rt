@@ -5,7 +5,7 @@ ghost use Rattle.answers.specs.Written.{written_number, written_length};
 use crate::refusal::Refusal;
 
 // How many bytes were written, or a refusal.
-#[derive(Drop)]
+#[derive(Clone, Copy)]
 pub enum Written {
     Bytes(usize),
     Refused(Refusal),

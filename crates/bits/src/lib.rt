@@ -4,7 +4,7 @@ ghost use Rattle.std.specs.Prelude.{◌≡◌, ◌<◌};
 ghost use Rattle.bits.specs.Bits.{weight, high_bits, no_bits, last_fits, marked, digest_bytes, kept};
 
 // The bits of a message behind its whole bytes: so many of the byte's first ones.
-#[derive(Drop)]
+#[derive(Clone, Copy)]
 pub struct LastBits {
     pub byte: u8,
     pub count: u8,

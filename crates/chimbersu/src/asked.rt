@@ -3,7 +3,7 @@ use hex_bytes::Decoded;
 
 // Which argument is which, 0 where it is not given: the names, and the word behind the option; whether the flag is given; whether the option's word is
 // still to come; whether some word was one too many or unknown.
-#[derive(Drop)]
+#[derive(Clone, Copy)]
 pub(crate) struct Asked {
     pub(crate) first: usize,
     pub(crate) second: usize,
@@ -13,7 +13,7 @@ pub(crate) struct Asked {
     wrong: bool,
 }
 
-#[derive(Drop)]
+#[derive(Clone, Copy)]
 enum Kind {
     Name,
     Option,

@@ -1,7 +1,7 @@
 // Files that arguments name.
 ghost use Rattle.std.specs.Prelude.{◌≤◌, length};
 
-#[derive(Drop)]
+#[derive(Clone, Copy)]
 pub(crate) enum Loaded {
     Bytes(usize),
     Failed,

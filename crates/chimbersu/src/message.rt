@@ -3,7 +3,7 @@ use answers::Answer;
 use keyed_state::Keyed;
 use streaming::Status;
 
-#[derive(Drop)]
+#[derive(Clone, Copy)]
 pub(crate) struct Turn {
     pub(crate) keyed: Keyed,
     pub(crate) status: Status,

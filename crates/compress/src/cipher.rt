@@ -11,13 +11,13 @@ use counter::Counter;
 use family::SmallFamily;
 
 // The code has halves and quarters in the chain's own place.
-#[derive(Drop)]
+#[derive(Clone, Copy)]
 pub struct Halves {
     pub left: [u32; 4],
     pub right: [u32; 4],
 }
 
-#[derive(Drop)]
+#[derive(Clone, Copy)]
 pub struct Quarters {
     pub l: [u32; 4],
     pub a: [u32; 4],

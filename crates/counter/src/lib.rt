@@ -4,11 +4,11 @@
 ghost use Rattle.std.specs.Prelude.{◌≡◌, ◌+◌, ◌*◌, ◌^◌, ◌<◌, ◌≤◌};
 ghost use Rattle.counter.specs.Counter.{number_of, counter_of};
 
-#[derive(Drop)]
+#[derive(Clone, Copy)]
 pub struct Counter(pub u32, pub u32, pub u32, pub u32);
 
 // One word of a counter and what it carries into the next.
-#[derive(Drop)]
+#[derive(Clone, Copy)]
 struct Sum {
     word: u32,
     carry: u32,

@@ -14,7 +14,7 @@ use reports::{Length, Report};
 use state::State;
 
 // An answer, and the state handed back.
-#[derive(Drop)]
+#[derive(Clone, Copy)]
 pub struct Step {
     pub answer: Answer,
     pub state: State,

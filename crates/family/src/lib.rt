@@ -4,14 +4,14 @@
 ghost use Rattle.std.specs.Prelude.{◌≡◌};
 ghost use Rattle.family.specs.Family.{family_of, family_number, block_bytes, chain_words, salt_bytes, length_bytes, pad_limit, length_place, block_words, near_distance, salt_quads, runs};
 
-#[derive(Drop)]
+#[derive(Clone, Copy)]
 pub enum Family {
     Small,
     Large,
 }
 
 // The column "up to 256 bits": 256 is the longest digest.
-#[derive(Drop)]
+#[derive(Clone, Copy)]
 pub struct SmallFamily;
 
 impl SmallFamily {
@@ -43,7 +43,7 @@ impl SmallFamily {
 }
 
 // The column up to 512 bits, from 257 on.
-#[derive(Drop)]
+#[derive(Clone, Copy)]
 pub struct LargeFamily;
 
 impl LargeFamily {

@@ -20,14 +20,14 @@ use reports::{Length, Report};
 use state::State;
 
 // What a digest covers, and the state handed back.
-#[derive(Drop)]
+#[derive(Clone, Copy)]
 pub struct Finished {
     pub report: Report,
     pub state: State,
 }
 
 // The chain after a message's last block, and how many blocks that took.
-#[derive(Drop)]
+#[derive(Clone, Copy)]
 struct Closed {
     chain: [u32; 16],
     count: u64,

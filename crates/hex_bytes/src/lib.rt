@@ -4,7 +4,7 @@ ghost use Rattle.std.specs.Prelude.{◌≡◌, true, ◌++◌, ◌*◌, ◌/◌,
 ghost use Rattle.hex_bytes.specs.Hex.{digit_value, digits, pairs, is_hex, decode_of, decode_buffer};
 
 // How many bytes were spelled; not hex, two digits a byte; or more bytes than there is room for.
-#[derive(Drop)]
+#[derive(Clone, Copy)]
 pub enum Decoded {
     Bytes(usize),
     NotHex,

@@ -9,21 +9,21 @@ use reports::Length;
 use tag_answers::{TagCheck, Tagged};
 
 // An answer, and the keyed state handed back.
-#[derive(Drop)]
+#[derive(Clone, Copy)]
 pub struct Step {
     pub answer: Answer,
     pub keyed: Keyed,
 }
 
 // What the tag covers, and the keyed state handed back.
-#[derive(Drop)]
+#[derive(Clone, Copy)]
 pub struct Finished {
     pub tagged: Tagged,
     pub keyed: Keyed,
 }
 
 // Whether the tag is right, and the keyed state handed back.
-#[derive(Drop)]
+#[derive(Clone, Copy)]
 pub struct Compared {
     pub check: TagCheck,
     pub keyed: Keyed,

@@ -6,7 +6,7 @@ ghost use Rattle.keyed_state.specs.Keyed.{tag_length, keyed_consistent, zero_key
 use state::State;
 
 // The inner running state, and the key padded to a block, zero past it.
-#[derive(Drop)]
+#[derive(Clone, Copy)]
 pub struct Keyed {
     pub inner: State,
     pub key: [u8; 128],

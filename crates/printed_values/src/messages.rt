@@ -1,7 +1,7 @@
 // The appendix's four messages.
 use state::State;
 
-#[derive(Drop)]
+#[derive(Clone, Copy)]
 pub enum Message {
     Empty,
     A,

@@ -6,11 +6,11 @@ ghost use Rattle.reports.specs.Report.{report_number, report_covered, report_bit
 use answers::Refusal;
 
 // The message length in whole bytes: a type of its own, apart from the bit counter.
-#[derive(Drop)]
+#[derive(Clone, Copy)]
 pub struct Length(pub u64);
 
 // What a digest covers: whole bytes and last bits, and blocks compressed with padding included.
-#[derive(Drop)]
+#[derive(Clone, Copy)]
 pub enum Report {
     Covers(Length, u8, u64),
     Refused(Refusal),

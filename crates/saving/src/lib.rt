@@ -13,7 +13,7 @@ use reports::Length;
 use state::State;
 
 // How many bytes were written, or a refusal; and the state handed back.
-#[derive(Drop)]
+#[derive(Clone, Copy)]
 pub struct Saved {
     pub written: Written,
     pub state: State,

@@ -7,27 +7,27 @@ use state::State;
 const LONGEST: usize = 196608;
 
 // What the lines before have left: the digest's state and the keyed one.
-#[derive(Drop)]
+#[derive(Clone, Copy)]
 pub(crate) struct Current {
     pub(crate) state: State,
     pub(crate) keyed: Keyed,
 }
 
 // The size of the line made, and what it leaves.
-#[derive(Drop)]
+#[derive(Clone, Copy)]
 pub(crate) struct Answered {
     pub(crate) size: usize,
     pub(crate) current: Current,
 }
 
 // The size of the line that a call of the digest makes, and the state after it.
-#[derive(Drop)]
+#[derive(Clone, Copy)]
 pub(crate) struct Said {
     pub(crate) size: usize,
     pub(crate) state: State,
 }
 
-#[derive(Drop)]
+#[derive(Clone, Copy)]
 enum Call {
     Begin,
     State,

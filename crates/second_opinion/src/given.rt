@@ -7,7 +7,7 @@ use reports::Length;
 use state::State;
 
 // The numbers of a state.
-#[derive(Drop)]
+#[derive(Clone, Copy)]
 enum Numbers {
     Are(Family, u16, u64, u64),
     Unreadable,
@@ -57,7 +57,7 @@ fn fill(line: &[u8], salt: &mut [u8], chain: &mut [u8], held: &mut [u8]) -> bool
 }
 
 // The state that words 1 to 7 write out, consistent or not; where they write none, it is all zero.
-#[derive(Drop)]
+#[derive(Clone, Copy)]
 pub(crate) struct Spelled {
     pub(crate) readable: bool,
     pub(crate) state: State,

@@ -53,7 +53,7 @@ pub(crate) fn add(line: &[u8], state: State, data: &mut [u8], out: &mut [u8]) ->
 }
 
 // How a digest ends: the last bits of its message, and how many bytes the lent buffer has.
-#[derive(Drop)]
+#[derive(Clone, Copy)]
 enum Ending {
     Is(LastBits, usize),
     Unreadable,

@@ -4,7 +4,7 @@ use crate::{calls, words};
 use libc::{STDIN_FILENO, STDOUT_FILENO};
 
 // How much of a line is kept so far, and the current states.
-#[derive(Drop)]
+#[derive(Clone, Copy)]
 struct Kept {
     size: usize,
     current: Current,

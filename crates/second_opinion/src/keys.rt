@@ -5,13 +5,13 @@ use keyed::{Compared, Finished, Step};
 use keyed_state::Keyed;
 
 // The size of the line made, and the keyed state after it.
-#[derive(Drop)]
+#[derive(Clone, Copy)]
 pub(crate) struct Said {
     pub(crate) size: usize,
     pub(crate) keyed: Keyed,
 }
 
-#[derive(Drop)]
+#[derive(Clone, Copy)]
 enum Call {
     Begin,
     State,

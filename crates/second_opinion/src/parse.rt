@@ -5,31 +5,31 @@ use bits::LastBits;
 use family::Family;
 
 // How many bytes were read. No contract bounds the number, so whoever takes that part of a slice tests it again.
-#[derive(Drop)]
+#[derive(Clone, Copy)]
 pub(crate) enum Bytes {
     Are(usize),
     Unreadable,
 }
 
-#[derive(Drop)]
+#[derive(Clone, Copy)]
 pub(crate) enum Number {
     Is(u64),
     Unreadable,
 }
 
-#[derive(Drop)]
+#[derive(Clone, Copy)]
 pub(crate) enum Bits {
     Are(u16),
     Unreadable,
 }
 
-#[derive(Drop)]
+#[derive(Clone, Copy)]
 pub(crate) enum Last {
     Are(LastBits),
     Unreadable,
 }
 
-#[derive(Drop)]
+#[derive(Clone, Copy)]
 pub(crate) enum Kind {
     Is(Family),
     Unreadable,

@@ -2,7 +2,7 @@
 use decimal::Number;
 use hex_bytes::Decoded;
 
-#[derive(Drop)]
+#[derive(Clone, Copy)]
 pub enum Salt {
     Bytes(usize),
     Digits,

@@ -7,7 +7,7 @@ ghost use Rattle.state.specs.State.{allowed, belongs, zero_past, consistent_of, 
 use family::{Family, LargeFamily, SmallFamily};
 use reports::Length;
 
-#[derive(Drop)]
+#[derive(Clone, Copy)]
 pub struct State {
     pub family: Family,
     pub m: u16,

@@ -4,7 +4,7 @@ use answers::{Answer, Refusal};
 use libc::STDIN_FILENO;
 use state::State;
 
-#[derive(Drop)]
+#[derive(Clone, Copy)]
 pub enum Status {
     More,
     End,
@@ -12,14 +12,14 @@ pub enum Status {
     Refused(Refusal),
 }
 
-#[derive(Drop)]
+#[derive(Clone, Copy)]
 pub struct Turn {
     pub state: State,
     pub status: Status,
 }
 
 // How many bytes a read brought, none at the end of the input or where it failed.
-#[derive(Drop)]
+#[derive(Clone, Copy)]
 pub struct Got {
     pub size: usize,
     pub failed: bool,

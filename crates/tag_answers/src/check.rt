@@ -5,7 +5,7 @@ ghost use Rattle.tag_answers.specs.TagCheck.{tag_check_number, tag_check_yes};
 use answers::Refusal;
 
 // Yes for the right tag, no for any other, or a refusal.
-#[derive(Drop)]
+#[derive(Clone, Copy)]
 pub enum TagCheck {
     Yes,
     No,

@@ -6,7 +6,7 @@ use answers::Refusal;
 use reports::Length;
 
 // What a tag covers: the message's bytes without the key block, and no blocks.
-#[derive(Drop)]
+#[derive(Clone, Copy)]
 pub enum Tagged {
     Covers(Length),
     Refused(Refusal),
