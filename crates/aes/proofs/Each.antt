@@ -3,7 +3,7 @@ use mathlib.Core.Path.{◌≡◌, refl, ap}
 use mathlib.Core.List.{List, [], ◌∷◌, map}
 use Prim.Native.Nat.{ℕ, zero, suc, ◌+◌, ◌<◌}
 use native.Mathlib.Nat.{le_of_suc-le-suc, not-suc-le-zero}
-use native.Mathlib.Numerals.{add_one}
+use native.Mathlib.Numerals.{add-one}
 use lib.ListN.{length, get_or, set}
 
 module _ {A : Type 0} (d : A) (f : A → A) where
@@ -18,7 +18,7 @@ module _ {A : Type 0} (d : A) (f : A → A) where
   more r [] h = absurd (not-suc-le-zero h)
 
   pub each_more : (r : ℕ) (xs : List A) → r < length xs → set (each r xs) r (f (get_or (each r xs) r d)) ≡ each (r + 1) xs
-  each_more r xs h = rw add_one (more r xs h)
+  each_more r xs h = rw add-one (more r xs h)
 
   -- at every place
   pub each_all : (xs : List A) → each (length xs) xs ≡ map f xs

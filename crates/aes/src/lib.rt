@@ -1,5 +1,6 @@
 // One round of AES on four columns of four bytes, by value: FIPS 197's round, a function a step.
 #![tactic(auto)]
+
 ghost use Rattle.std.specs.Prelude.{◌≡◌, map, ◌+◌, ◌*◌, get_or};
 ghost use Rattle.sbox.specs.Sbox.{sbox_of};
 ghost use Rattle.std.specs.Int.Bits.{bit_xor};
