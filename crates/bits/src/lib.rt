@@ -1,5 +1,6 @@
 // Bits of a byte, most significant first: the last bits of a message, the 1 bit behind them, and a digest's broken last byte.
 #![tactic(auto)]
+
 ghost use Rattle.std.specs.Prelude.{◌≡◌, ◌<◌};
 ghost use Rattle.bits.specs.Bits.{weight, high_bits, no_bits, last_fits, marked, digest_bytes, kept};
 

@@ -1,5 +1,6 @@
 // What finish and one-shot report.
 #![tactic(auto)]
+
 ghost use Rattle.std.specs.Prelude.{◌≡◌};
 ghost use Rattle.reports.specs.Report.{report_number, report_covered, report_bits, report_blocks};
 

@@ -1,5 +1,6 @@
 // The S-box as a match: it compiles to a read-only table, so that no call copies a table to its stack.
 #![tactic(auto)]
+
 ghost use Rattle.std.specs.Prelude.{◌≡◌};
 ghost use Rattle.sbox.specs.Sbox.{sbox_of};
 
