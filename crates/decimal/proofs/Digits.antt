@@ -4,7 +4,7 @@ use mathlib.Core.Bool.{true, false}
 use mathlib.Core.List.{List, [], ◌∷◌}
 use Prim.Native.Nat.{ℕ, ◌+◌, ◌*◌, ◌-◌, ◌≤◌, ◌<◌}
 use native.Mathlib.Omega.{arith}
-use native.Mathlib.Numerals.{add_one}
+use native.Mathlib.Numerals.{add-one}
 use lib.Dec.{leb}
 use lib.ListN.{length, drop, get_or, drop_of_length-le}
 use lib.Seq.{drop-cons}
@@ -36,7 +36,7 @@ module _ (text : List ℕ) (i : ℕ) where
   module _ (h : i < length text) where
     pub digit_passed : is_digit (get_or text i 0) ≡ true → digits (drop i text) ≡ digits (drop (i + 1) text)
     unfolding digits
-    digit_passed d = rw (drop-cons text i 0 h, add_one i, d)
+    digit_passed d = rw (drop-cons text i 0 h, add-one i, d)
 
     pub digit_missed : is_digit (get_or text i 0) ≡ false → digits (drop i text) ≡ false
     unfolding digits
@@ -44,7 +44,7 @@ module _ (text : List ℕ) (i : ℕ) where
 
     pub spelled_on : (n : ℕ) → spelled n (drop i text) ≡ spelled (10 * n + (get_or text i 0 - 48)) (drop (i + 1) text)
     unfolding spelled
-    spelled_on n = rw (drop-cons text i 0 h, add_one i)
+    spelled_on n = rw (drop-cons text i 0 h, add-one i)
 
     pub passed_least : (n : ℕ) → 10 * n + (get_or text i 0 - 48) ≤ spelled n (drop i text)
     passed_least n = rw (spelled_on n) (spelled_least (10 * n + (get_or text i 0 - 48)) (drop (i + 1) text))

@@ -1,5 +1,6 @@
 // Numbers spelled in decimal, read.
 #![tactic(auto)]
+
 ghost use Rattle.std.specs.Prelude.{◌≡◌};
 ghost use Rattle.decimal.specs.Decimal.{is_digit, number_of};
 

@@ -5,7 +5,7 @@ use mathlib.Core.List.{List, [], ◌∷◌}
 use Prim.Native.Nat.{ℕ, zero, suc, ◌+◌, ◌*◌, ◌-◌, ◌≤◌, ◌<◌}
 use native.Mathlib.Omega.{arith}
 use native.Mathlib.Decide.{dec_le}
-use native.Mathlib.Numerals.{add_one}
+use native.Mathlib.Numerals.{add-one}
 use lib.Dec.{leb, ltb}
 use lib.ListN.{length, drop, get_or, drop_of_length-le}
 use lib.Seq.{drop-cons}
@@ -43,7 +43,7 @@ module _ (text : List ℕ) (i : ℕ) where
   module _ (h : i < length text) where
     pub digit_passed : digit_value (get_or text i 0) < 16 → digits (drop i text) ≡ digits (drop (i + 1) text)
     unfolding digits
-    digit_passed d = rw (drop-cons text i 0 h, add_one i, lt-ltb (digit_value (get_or text i 0)) 16 d)
+    digit_passed d = rw (drop-cons text i 0 h, add-one i, lt-ltb (digit_value (get_or text i 0)) 16 d)
 
     pub digit_missed : 16 ≤ digit_value (get_or text i 0) → digits (drop i text) ≡ false
     unfolding digits

@@ -5,7 +5,7 @@ use mathlib.Core.List.{List, [], ◌∷◌, ◌++◌, append_assoc}
 use Prim.Native.Nat.{ℕ, zero, suc, ◌+◌, ◌*◌, ◌≤◌, ◌<◌}
 use native.Mathlib.Omega.{arith}
 use native.Mathlib.Decide.{dec_lt}
-use native.Mathlib.Numerals.{add_one}
+use native.Mathlib.Numerals.{add-one}
 use lib.ListN.{length, drop, get_or, set, get_or-eq_default}
 use lib.Seq.{drop-cons, get_or-drop, set_at}
 use Rattle.hex_bytes.specs.Hex.{digit_value, digits, pairs}
@@ -49,4 +49,4 @@ pairs_below n text d h i = elim (dec_lt i n) [
 pub put_next : (text out : List ℕ) (i b : ℕ) → i < length out → b ≡ spelled text i
     → set (pairs i text ++ drop i out) i b ≡ pairs (i + 1) text ++ drop (i + 1) out
 put_next text out i b h e =
-    rw (drop-cons out i 0 h, set_at (pairs i text) (get_or out i 0) (drop (suc i) out) b i (pairs_length i text), add_one i, pairs_next i text, append_assoc, e)
+    rw (drop-cons out i 0 h, set_at (pairs i text) (get_or out i 0) (drop (suc i) out) b i (pairs_length i text), add-one i, pairs_next i text, append_assoc, e)

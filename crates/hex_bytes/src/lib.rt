@@ -1,5 +1,6 @@
 // Bytes spelled in hex, read.
 #![tactic(auto)]
+
 ghost use Rattle.std.specs.Prelude.{◌≡◌, true, ◌++◌, ◌*◌, ◌/◌, ◌≤◌, length, drop};
 ghost use Rattle.hex_bytes.specs.Hex.{digit_value, digits, pairs, is_hex, decode_of, decode_buffer};
 

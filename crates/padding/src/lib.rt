@@ -1,6 +1,7 @@
 // The parts of a message's end, each for itself: the counter of its last block, whether one block is enough, the two lengths at a block's end; and the
 // digest put out.
 #![tactic(auto)]
+
 ghost use Rattle.std.specs.Prelude.{◌≡◌, cond, ◌++◌, eqb, leb};
 ghost use Rattle.std.proofs.lemmas.List.Edits.{sets};
 ghost use Rattle.family.specs.Family.{pad_limit, length_place, length_bytes};

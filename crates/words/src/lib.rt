@@ -1,5 +1,6 @@
 // Words of 32 bits: of bytes, and the AES round on four of them.
 #![tactic(auto)]
+
 ghost use Rattle.std.specs.Prelude.{◌≡◌};
 ghost use Rattle.words.specs.Words.{from_bytes, xor4, column_of, from_column, columns_of, from_columns, round_of};
 

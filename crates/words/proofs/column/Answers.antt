@@ -1,0 +1,7 @@
+use mathlib.Core.Path.{refl}
+use Rattle.words.specs.Words.{column_of}
+use Rattle.words.proofs.column.Goals as goal
+
+pub returns : goal.returns
+unfolding column_of
+returns c = refl
