@@ -4,7 +4,7 @@ use mathlib.Core.Logic.{◌≢◌}
 use mathlib.Core.List.{List, [], ◌∷◌, ◌++◌}
 use Prim.Native.Nat.{ℕ, zero, suc, ◌+◌, ◌≤◌, ◌<◌}
 use native.Mathlib.Nat.{add-zero}
-use native.Mathlib.Numerals.{add_one, add-two, add-three, add-four}
+use native.Mathlib.Numerals.{add-one, add-two, add-three, add-four}
 use native.Mathlib.Omega.{arith}
 use lib.ListN.{length, get_or, set, take, drop, length-append, get_or-append}
 use lib.Seq.{sets, drop-cons, drop-set-lt, sets-eq, length-take-le, get_or-append-add, get_or-set_other}
@@ -20,7 +20,7 @@ four_of (a ∷ b ∷ c ∷ d ∷ e ∷ x) h = absurd (omega arith)
 
 -- four stores in a row
 pub stores_four : (l x : List ℕ) (i : ℕ) → length x ≡ 4 → set (set (set (set l i (get_or x 0 0)) (i + 1) (get_or x 1 0)) (i + 2) (get_or x 2 0)) (i + 3) (get_or x 3 0) ≡ sets l i x
-stores_four l x i h = rw (add_one, add-two, add-three) (ap (sets l i) (four_of x h))
+stores_four l x i h = rw (add-one, add-two, add-three) (ap (sets l i) (four_of x h))
 
 -- ---- a run of stores, read back
 -- a place that was stored to
@@ -68,7 +68,7 @@ module _ (l x : List ℕ) (p : ℕ) (n : length x ≡ 4) where
 pub four_drop : (v : List ℕ) (i : ℕ) → i + 4 ≤ length v → drop i v ≡ four_at v i ++ drop (i + 4) v
 unfolding four_at
 four_drop v i h =
-    rw (add_one, add-two, add-three, add-four)
+    rw (add-one, add-two, add-three, add-four)
     (drop-cons v i 0 (omega arith)
     ∙ ap (λ (l : List ℕ). get_or v i 0 ∷ l)
     (drop-cons v (suc i) 0 (omega arith)

@@ -2,7 +2,7 @@
 use mathlib.Core.Path.{◌≡◌, refl, sym, ap, ap₂, ◌∙◌}
 use Prim.Native.Nat.{ℕ, zero, suc, ◌+◌, ◌-◌, ◌*◌, ◌/◌, ◌%◌, ◌≤◌, ◌<◌}
 use native.Mathlib.Nat.{add-zero, add_assoc}
-use native.Mathlib.Numerals.{add_one}
+use native.Mathlib.Numerals.{add-one}
 use native.Mathlib.Omega.{arith}
 use mathlib.Core.List.{List, [], ◌∷◌, ◌++◌, append_assoc}
 use lib.ListN.{length, get_or, set, take, drop, length-append}
@@ -23,7 +23,7 @@ use Rattle.compress.specs.Expansion.{back, places, enters, counts_of, entered_of
 
 pub times_more : {A : Type 0} (n : ℕ) (f : ℕ → A → A) (s : A) → times (n + 1) f s ≡ f n (times n f s)
 unfolding times
-times_more n f s = rw add_one
+times_more n f s = rw add-one
 
 pub times_none : {A : Type 0} (f : ℕ → A → A) (s : A) → times 0 f s ≡ s
 unfolding times
@@ -42,13 +42,13 @@ words_none b w = refl
 pub words_step : (b w v : List ℕ) (j : ℕ) → j < length w → v ≡ words_of j b ++ drop j w → set v j (word_at b j) ≡ words_of (j + 1) b ++ drop (j + 1) w
 unfolding words_of
 words_step b w v j h e =
-    rw (e, add_one, drop-cons w j 0 h, set_at (words_of j b) (get_or w j 0) (drop (suc j) w) (word_at b j) j (words_length j b))
+    rw (e, add-one, drop-cons w j 0 h, set_at (words_of j b) (get_or w j 0) (drop (suc j) w) (word_at b j) j (words_length j b))
     (sym (append_snoc (words_of j b) (word_at b j) (drop (suc j) w)))
 
 -- ---- stores
 -- a store at i is one word more
 pub put_more : (l : List ℕ) (i v : ℕ) → i < length l → take (i + 1) (set l i v) ≡ take i l ++ (v ∷ [])
-put_more l i v h = rw add_one (take-suc-set l i v h)
+put_more l i v h = rw add-one (take-suc-set l i v h)
 
 -- four stores are four words more
 pub put_four : (l x : List ℕ) (i : ℕ) → length x ≡ 4 → i + 4 ≤ length l → take (i + 4) (sets l i x) ≡ take i l ++ x

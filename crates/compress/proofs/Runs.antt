@@ -4,7 +4,7 @@ use mathlib.Core.List.{List}
 use Prim.Native.Nat.{ℕ, ◌+◌, ◌-◌, ◌*◌, ◌/◌, ◌≤◌, ◌<◌}
 use native.Mathlib.Omega.{arith}
 use native.Mathlib.Nat.{add-div_left, div-eq_of_lt, div_self}
-use native.Mathlib.Numerals.{add_one}
+use native.Mathlib.Numerals.{add-one}
 use lib.ListN.{length, take, drop, length-drop}
 use lib.Seq.{drop-drop, length-take-le}
 use Rattle.family.specs.declared.Family.{Family}
@@ -34,7 +34,7 @@ module _ (f : Family) (salt : List ℕ) (c : Counter) (xs chain : List ℕ) wher
   unfolding run_over
   run_more h =
       let e : length xs ≡ b + length (drop b xs) = simp length-drop (omega arith) in
-      rw (e, add-div_left (length (drop b xs)) (block_pos f), add_one)
+      rw (e, add-div_left (length (drop b xs)) (block_pos f), add-one)
 
 -- a turn of the loop over xs: the block from i on
 pub run_turn : (f : Family) (salt : List ℕ) (c : Counter) (xs chain : List ℕ) (i : ℕ) {size : ℕ} → size ≡ block_bytes f → size ≤ length xs - i → {next : Counter} {after : List ℕ}

@@ -1,7 +1,7 @@
 -- The window of sixteen words, and the steps of the cipher's inner function.
 use mathlib.Core.Path.{◌≡◌, refl, sym, ◌∙◌}
 use Prim.Native.Nat.{ℕ, zero, suc, ◌+◌, ◌-◌, ◌*◌, ◌%◌, ◌≤◌, ◌<◌}
-use native.Mathlib.Numerals.{add_one}
+use native.Mathlib.Numerals.{add-one}
 use native.Mathlib.Omega.{arith}
 use native.Mathlib.Decide.{dec_lt}
 use mathlib.Core.List.{List}
@@ -59,7 +59,7 @@ step_round (suc j) x y key h = refl
 -- a step more
 pub steps_more : (j : ℕ) (w : List ℕ) (i : ℕ) (x : List ℕ) → steps_of (j + 1) w i x ≡ step_of j x (steps_of j w i x) (four_at w (i + 4 * j))
 unfolding steps_of
-steps_more j w i x = rw add_one
+steps_more j w i x = rw add-one
 
 -- three steps and a round under zero are the whole
 pub steps_inner : (w : List ℕ) (i : ℕ) (x : List ℕ) → round_of (steps_of 3 w i x) zero4 ≡ inner_of 2 w i x

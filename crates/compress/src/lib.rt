@@ -1,6 +1,7 @@
 // SHAvite-3's compression functions as definitions, on a chain of 16 words, a block of 128 bytes and a salt of 64, of which the small
 // family uses the first 8, 64 and 32; and the small one in the first loader's form, byte by byte over a window of words.
 #![tactic(auto)]
+
 ghost use Rattle.std.specs.Prelude.{◌≡◌};
 ghost use Rattle.compress.specs.Compression.{small_output};
 ghost use Rattle.compress.specs.Window.{halves_at};

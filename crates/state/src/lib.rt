@@ -1,5 +1,6 @@
 // The running state, and when it is consistent.
 #![tactic(auto)]
+
 ghost use Rattle.std.specs.Prelude.{◌≡◌, ◌^◌, ◌<◌, drop};
 ghost use Rattle.state.specs.Bytes.{sum_of, all_zero};
 ghost use Rattle.state.specs.State.{allowed, belongs, zero_past, consistent_of, zero_state};

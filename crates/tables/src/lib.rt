@@ -1,5 +1,6 @@
 // The AES round on words over four tables of 256 words, one per row of the state.
 #![tactic(auto)]
+
 ghost use Rattle.std.specs.Prelude.{◌≡◌};
 ghost use Rattle.tables.specs.Tables.{round_tables, column_by, round_by};
 

@@ -1,6 +1,7 @@
 // Text put into a lent buffer from a place on. Each call answers the place behind what it put; where that would be past the buffer's
 // end it puts nothing and answers the place it was given.
 #![tactic(auto)]
+
 ghost use Rattle.std.specs.Prelude.{◌≡◌, [], ◌∷◌, ◌+◌, ◌≤◌, ◌%◌, leb, length, take};
 ghost use Rattle.text.specs.Place.{placed, place_after};
 ghost use Rattle.text.specs.Digits.{digit, hex_of, upper_of, decimal_of};

@@ -4,12 +4,8 @@ use Rattle.sbox.specs.Sbox.{sbox_of, sbox_table}
 use Rattle.words.specs.Words.{from_bytes, from_column}
 use Rattle.tables.specs.Tables.{entry_of, round_tables}
 use Rattle.tables.proofs.Listed.{literal}
-use Rattle.tables.proofs.all.Statement.{statement}
-use Rattle.tables.proofs.all.Tie as tie
+use Rattle.tables.proofs.all.Goals as goal
 
-returns : tie.Need-returns
+pub returns : goal.returns
 unfolding round_tables entry_of sbox_of sbox_table from_column from_bytes
 returns c = literal (λ k. entry_of (k / 256) (k % 256)) _ tt
-
-pub all-spec : {M : Type 1} → statement M
-all-spec = tie.close (tie.spec returns)
