@@ -1,5 +1,6 @@
 // Compression with all expanded words in an array: both families over the tables, and the large one byte by byte.
 #![tactic(auto)]
+
 ghost use Rattle.std.specs.Prelude.{◌≡◌, true, ◌/◌, ◌≤◌, length};
 ghost use Rattle.family.specs.declared.Family.TheVariants.{Small, Large};
 ghost use Rattle.family.specs.Family.{block_bytes};

@@ -1,5 +1,6 @@
 // The saved form of a running state: where its sections stand, by the family, and how long it is. The first count is at 0.
 #![tactic(auto)]
+
 ghost use Rattle.std.specs.Prelude.{◌≡◌};
 ghost use Rattle.saved_form.specs.Form.{chain_place, covered_place, held_place, longest_form};
 

@@ -1,0 +1,12 @@
+use mir.Syntax.{w32}
+use mir.Val.{Fits}
+use lib.ListN.{get_or}
+use borrow.Author.Rules.{rules}
+use Rattle.tables.proofs.Rounds.{round_tables_lem}
+use Rattle.expanded.proofs.Ciphers.{lent_tables}
+use Rattle.expanded.proofs.rounds.round.Goals as goal
+
+pub returns-then-form : goal.returns-then-form
+returns-then-form c =
+    rw (c.round.ensures, lent_tables c.args.form c.args.t.now c.requires c.if-form.true)
+    (round_tables_lem c.args.x c.args.key (λ j h. let e : Fits w32 (get_or c.args.key j 0) = search rules in e.fits))
