@@ -37,7 +37,7 @@ fate_reads : (p : End) (f : ℕ → Reading) (g : ℕ → Fate) → ((i : ℕ) �
 fate_reads (At i) f g h = h i
 fate_reads (Refused r o) f g h = refl
 
-fate_end : (log : List ℕ) (second third fourth last : ℕ) (t : Bool) → fate (readings.atEnd log second third fourth last t) ≡ cond t read (bad LogExtent last)
+fate_end : (log : List ℕ) (second third fourth last : ℕ) (t : Bool) → fate (readings.at_end log second third fourth last t) ≡ cond t read (bad LogExtent last)
 fate_end log second third fourth last true = refl
 fate_end log second third fourth last false = refl
 
@@ -74,10 +74,10 @@ module _ (log : List ℕ) where
   pub reading_from : fate (reading_of log) ≡ from salt 0
   unfolding reading_of salt_end
   reading_from =
-      fate_reads (salt_end log) (readings.fromRegisters log) from_registers (λ second.
-      fate_reads (registers_end log second) (readings.fromEvents log second) (from_events (number_at log second)) (λ third.
-      fate_reads (event_section_end log (number_at log second) third) (readings.fromClaims log second third) (from_claims (number_at log second)) (λ fourth.
-      fate_reads (claims_end log (number_at log second) fourth) (readings.fromEnd log second third fourth) from_end (λ last.
+      fate_reads (salt_end log) (readings.from_registers log) from_registers (λ second.
+      fate_reads (registers_end log second) (readings.from_events log second) (from_events (number_at log second)) (λ third.
+      fate_reads (event_section_end log (number_at log second) third) (readings.from_claims log second third) (from_claims (number_at log second)) (λ fourth.
+      fate_reads (claims_end log (number_at log second) fourth) (readings.from_end log second third fourth) from_end (λ last.
       fate_end log second third fourth last (eqb (length log) last)))))
 
   -- a section is its count, and then its contents

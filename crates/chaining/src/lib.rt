@@ -1,5 +1,6 @@
 // The chain taken through one compression, in the form of the round that the caller names.
 #![tactic(auto)]
+
 ghost use Rattle.std.specs.Prelude.{◌≡◌, replicate};
 ghost use Rattle.counter.specs.Counter.{counter_of};
 ghost use Rattle.compress.specs.Compression.{compress_of};

@@ -5,7 +5,7 @@ use mathlib.Core.List.{List, [], ◌∷◌, ◌++◌}
 use Prim.Native.Nat.{ℕ, zero, suc, ◌+◌, ◌-◌, ◌*◌, ◌/◌, ◌%◌, ◌≤◌, ◌<◌}
 use native.Mathlib.Omega.{arith}
 use native.Mathlib.Nat.{zero-add, suc-add, div-add-mod', mod-lt}
-use native.Mathlib.Numerals.{add_one}
+use native.Mathlib.Numerals.{add-one}
 use lib.ListN.{length, take, drop, length-drop}
 use lib.Seq.{drop-append-le, take-append-le, drop-drop}
 use Rattle.family.specs.declared.Family.{Family}
@@ -43,7 +43,7 @@ pub whole_blocks_last : (n b d : ℕ) (xs : List ℕ) → whole_blocks (suc n) b
 unfolding whole_blocks
 whole_blocks_last n b d xs =
     let e : d + suc n * b ≡ d + n * b + b = omega arith in
-    rw e (rw add_one at (whole_blocks_add n 1 b d xs))
+    rw e (rw add-one at (whole_blocks_add n 1 b d xs))
 
 pub whole_blocks_length : (n b d : ℕ) (xs : List ℕ) → length (whole_blocks n b d xs) ≡ n
 unfolding whole_blocks

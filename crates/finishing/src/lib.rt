@@ -1,5 +1,6 @@
 // The end of a digest: the last bits and the padding, the last blocks, and the digest written out; of a state, which goes on unchanged, or of one message whole.
 #![tactic(auto)]
+
 ghost use Rattle.std.specs.Prelude.{◌≡◌, true, ◌⊎◌, ◌+◌, ◌*◌, ◌%◌, ◌≤◌, ◌<◌, length, take, drop, set, replicate};
 ghost use Rattle.std.proofs.lemmas.List.Edits.{sets};
 ghost use Rattle.family.specs.Family.{family_of, block_bytes};

@@ -1,5 +1,6 @@
 // The keyed state, and when it is consistent.
 #![tactic(auto)]
+
 ghost use Rattle.std.specs.Prelude.{◌≡◌};
 ghost use Rattle.keyed_state.specs.Keyed.{tag_length, keyed_consistent, zero_keyed};
 

@@ -1,5 +1,6 @@
 // The start-up calls: the master value, and the starting value of a digest length. What source 003 prints is not computed.
 #![tactic(auto)]
+
 ghost use Rattle.std.specs.Prelude.{◌≡◌};
 ghost use Rattle.family.specs.declared.Family.TheVariants.{Small, Large};
 ghost use Rattle.startup.specs.Startup.{master_of, start_of};

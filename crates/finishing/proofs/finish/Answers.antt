@@ -1,0 +1,57 @@
+-- The tests are the rule's, in its order; what is put is the first m bits of the last chain.
+-- the length that the type tells
+use mathlib.Core.Logic.{inr}
+use mathlib.Core.List.{[]}
+use mathlib.Core.Path.{◌≡◌, ◌∙◌}
+use mathlib.Core.Bool.{true}
+use Prim.Native.Nat.{◌*◌}
+use native.Mathlib.Omega.{arith}
+use Rattle.family.specs.Family.{block_bytes}
+use Rattle.family.proofs.Sizes.{block_pos}
+use Rattle.counter.specs.Counter.{counter_of}
+use Rattle.compress.proofs.Runs.{run_none}
+use Rattle.bits.specs.Bits.{last_fits}
+use Rattle.state.specs.State.{consistent_of}
+use Rattle.state.proofs.Soundness.{Sound, sound}
+use Rattle.answers.proofs.Tests.{fell, held}
+use Rattle.finishing.specs.Finish.{held_of, closing}
+use Rattle.finishing.proofs.Answers.{closing_max, count_max, finish_not, finish_unfit, finish_short, finish_refused, finished}
+use Rattle.finishing.proofs.finish.Goals as goal
+
+returns-4 : tie.Need-returns-4
+unfolding closing held_of
+returns-4 c =
+    let k = c.before.before.before.before.before in
+    let g = room k.before in
+    let e = first g in
+    let a = e.before.before.before in
+    let s = a.args.state in
+    let none = run_none s.family s.salt (counter_of (8 * block_bytes s.family)) [] s.chain (block_pos s.family) in
+    finished s a.args.last a.args.out.now (ok e) (fits g.before.before) g.before.digest-bytes.ensures g.if3.left (sixteen a)
+    (k.close.ensures.0 ∙ rw none, k.close.ensures.1) c.before.before.before.put-digest.ensures
+
+pub returns-then-not-consistent : goal.returns-then-not-consistent
+returns-then-not-consistent c =
+    let a = c.args in let both = finish_refused _ a.last a.out.now (finish_not _ a.last a.out.now (fell c.consistent.ensures c.if-not-consistent.true)) in
+    record { result = both.0; buffer = both.1 }
+
+pub returns-then-not-fits : goal.returns-then-not-fits
+returns-then-not-fits c =
+    let ok : consistent_of c.args.state ≡ true = held c.consistent.ensures c.if-not-consistent.false in
+    let a = c.args in let both = finish_refused _ a.last a.out.now (finish_unfit _ a.last a.out.now ok (fell c.fits.ensures c.if-not-fits.true)) in
+    record { result = both.0; buffer = both.1 }
+
+pub returns-then-out-size : goal.returns-then-out-size
+returns-then-out-size c =
+    let ok : consistent_of c.args.state ≡ true = held c.consistent.ensures c.if-not-consistent.false in
+    let fits : last_fits c.args.last ≡ true = held c.fits.ensures c.if-not-fits.false in
+    let a = c.args in let both = finish_refused _ a.last a.out.now (finish_short _ a.last a.out.now ok fits c.digest_bytes-size.ensures c.if-out-size.true) in
+    record { result = both.0; buffer = both.1 }
+
+pub shape_of-out : goal.shape_of-out
+unfolding closing held_of
+shape_of-out c =
+    let ok : consistent_of c.args.state ≡ true = held c.consistent.ensures c.if-not-consistent.false in
+    let known : Sound c.args.state = sound _ ok in
+    let a = c.args in
+    omega (arith, c.close-count.ensures.1, closing_max a.state a.last, count_max a.state known)
