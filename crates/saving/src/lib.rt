@@ -1,5 +1,6 @@
 // Saving a running state: its form is written to a lent buffer, a section at a time.
 #![tactic(auto)]
+
 ghost use Rattle.std.specs.Prelude.{◌≡◌, ◌%◌, length};
 ghost use Rattle.std.proofs.lemmas.List.Edits.{sets};
 ghost use Rattle.family.specs.Family.{block_bytes};

@@ -2,10 +2,11 @@
 -- the length that the type tells
 use mathlib.Core.Logic.{inr}
 use mathlib.Core.List.{[]}
-use mathlib.Core.Path.{◌≡◌, ◌∙◌}
+use mathlib.Core.Path.{◌≡◌, sym, ◌∙◌}
 use mathlib.Core.Bool.{true}
 use Prim.Native.Nat.{◌*◌}
 use native.Mathlib.Omega.{arith}
+use lib.ListN.{length, length-map}
 use Rattle.family.specs.Family.{block_bytes}
 use Rattle.family.proofs.Sizes.{block_pos}
 use Rattle.counter.specs.Counter.{counter_of}
@@ -17,18 +18,6 @@ use Rattle.answers.proofs.Tests.{fell, held}
 use Rattle.finishing.specs.Finish.{held_of, closing}
 use Rattle.finishing.proofs.Answers.{closing_max, count_max, finish_not, finish_unfit, finish_short, finish_refused, finished}
 use Rattle.finishing.proofs.finish.Goals as goal
-
-returns-4 : tie.Need-returns-4
-unfolding closing held_of
-returns-4 c =
-    let k = c.before.before.before.before.before in
-    let g = room k.before in
-    let e = first g in
-    let a = e.before.before.before in
-    let s = a.args.state in
-    let none = run_none s.family s.salt (counter_of (8 * block_bytes s.family)) [] s.chain (block_pos s.family) in
-    finished s a.args.last a.args.out.now (ok e) (fits g.before.before) g.before.digest-bytes.ensures g.if3.left (sixteen a)
-    (k.close.ensures.0 ∙ rw none, k.close.ensures.1) c.before.before.before.put-digest.ensures
 
 pub returns-then-not-consistent : goal.returns-then-not-consistent
 returns-then-not-consistent c =
@@ -48,10 +37,29 @@ returns-then-out-size c =
     let a = c.args in let both = finish_refused _ a.last a.out.now (finish_short _ a.last a.out.now ok fits c.digest_bytes-size.ensures c.if-out-size.true) in
     record { result = both.0; buffer = both.1 }
 
-pub shape_of-out : goal.shape_of-out
+pub close-count-requires : goal.close-count-requires
+close-count-requires c =
+    let ok : consistent_of c.args.state ≡ true = held c.consistent.ensures c.if-not-consistent.false in
+    let fits : last_fits c.args.last ≡ true = held c.fits.ensures c.if-not-fits.false in
+    let known : Sound c.args.state = sound _ ok in
+    let k = known in
+    (k.within, fits, k.rest, inr (block_pos c.args.state.family))
+
+pub overflow_add-compressed : goal.overflow_add-compressed
 unfolding closing held_of
-shape_of-out c =
+overflow_add-compressed c =
     let ok : consistent_of c.args.state ≡ true = held c.consistent.ensures c.if-not-consistent.false in
     let known : Sound c.args.state = sound _ ok in
     let a = c.args in
     omega (arith, c.close-count.ensures.1, closing_max a.state a.last, count_max a.state known)
+
+pub returns : goal.returns
+unfolding closing held_of
+returns c =
+    let sixteen : length c.args.state.chain ≡ 16 = c.well_formed.1.0.1.1.1.1.1.0.1.0.1 in
+    let ok : consistent_of c.args.state ≡ true = held c.consistent.ensures c.if-not-consistent.false in
+    let fits : last_fits c.args.last ≡ true = held c.fits.ensures c.if-not-fits.false in
+    let s = c.args.state in
+    let none = run_none s.family s.salt (counter_of (8 * block_bytes s.family)) [] s.chain (block_pos s.family) in let both = finished s c.args.last c.args.out.now ok fits c.digest_bytes-size.ensures c.if-out-size.false sixteen
+    (c.close-count.ensures.0 ∙ rw none, c.close-count.ensures.1) c.put_digest.ensures in
+    record { result = both.0; buffer = both.1 }
