@@ -1,5 +1,6 @@
 // The running digest: begin, add, finish and one-shot. Finish stands in a crate below and is passed on.
 #![tactic(auto)]
+
 mod bytes;
 mod calls;
 
