@@ -4,7 +4,7 @@ use mathlib.Core.List.{List, [], ◌∷◌, ◌++◌}
 use Prim.Native.Nat.{ℕ, zero, suc, ◌+◌, ◌-◌, ◌*◌, ◌^◌, ◌≤◌, ◌<◌}
 use native.Mathlib.Omega.{arith}
 use native.Mathlib.Nat.{pow-le-pow_right, lt_of_lt_of_le}
-use native.Mathlib.Numerals.{add_one}
+use native.Mathlib.Numerals.{add-one}
 use lib.ListN.{length, get_or, set}
 use Rattle.fields.specs.Fields.{number_in}
 use Rattle.state.specs.Bytes.{fill}
@@ -19,7 +19,7 @@ unfolding number_in
 number_more l at count i h =
     let p : at + (count - suc i) ≡ at + (count - 1 - i) = omega arith in
     let q : at + (count - 1 - i) + 1 ≡ at + (count - i) = omega arith in
-    rw (add_one i, p, q) (omega arith)
+    rw (add-one i, p, q) (omega arith)
 
 -- fewer than eight bytes leave room for one more
 pub number_room : (l : List ℕ) → bytes l → (i at : ℕ) → i < 8 → number_in i l at < 2 ^ 56
@@ -47,4 +47,4 @@ pub word_stored : (l : List ℕ) (at j : ℕ) → j < 16 → {chain : List ℕ} 
     → set chain j w ≡ fill 16 (words_in (j + 1) l at)
 word_stored l at j h e p =
     let n = words_length j l at in
-    rw (e, p, add_one, words_snoc j l at) (rw n at (fill_put 16 (words_in j l at) (number_in 4 l (at + 4 * j)) (omega (arith, n))))
+    rw (e, p, add-one, words_snoc j l at) (rw n at (fill_put 16 (words_in j l at) (number_in 4 l (at + 4 * j)) (omega (arith, n))))

@@ -1,5 +1,6 @@
 // Loading a saved form: it is read front to back, with an answer a section, of which the first refusal counts.
 #![tactic(auto)]
+
 ghost use Rattle.std.specs.Prelude.{◌≡◌, ◌*◌, ◌≤◌};
 ghost use Rattle.answers.specs.declared.refusal.Answer.TheVariants.{Refused};
 ghost use Rattle.answers.specs.Refusal.{judged};

@@ -1,7 +1,0 @@
--- The state is the all-zero one.
-use borrow.Author.Rules.{rules}
-use Rattle.loading.proofs.refused.Statement.{statement}
-use Rattle.loading.proofs.refused.Tie as tie
-
-pub refused-spec : {M : Type 1} → statement M
-refused-spec = tie.close (tie.spec (λ c κs. search rules) (λ c. rw c.zero-state.ensures))
