@@ -1,6 +1,8 @@
 // The words that a program is started with, the files that they name, and the line that says what failed.
 #![tactic(auto)]
 
+ghost use Rattle.std.specs.Prelude.{◌≤◌};
+
 use std::env::FillError;
 use std::io::{ErrorKind, Write};
 use std::rt::{Env, Files};
@@ -42,7 +44,9 @@ pub fn open<R: Files>(rt: &R, name: &[u8]) -> io::Result<R::File> {
 }
 
 // Puts the error's text at the start of `out`, as far as there is room, and answers its length.
-fn put_error(error: &io::Error, out: &mut [u8; ROOM]) -> usize {
+fn put_error(error: &io::Error, out: &mut [u8; ROOM]) -> usize
+    ensures { result ≤ 128 }
+{
     let mut rest: &mut [u8] = out;
     let _ = write!(rest, "{error}");
     ROOM.saturating_sub(rest.len())
