@@ -6,6 +6,7 @@ use answers::{Answer, Written};
 use family::SmallFamily;
 use state::State;
 use std::io;
+use std::process::ExitCode;
 use streaming::Status;
 
 fn hand_over(rt: &impl Print, state: State) -> io::Result<()> {
@@ -31,11 +32,19 @@ fn measure(rt: &HostRuntime, state: State) -> io::Result<()> {
     }
 }
 
-fn main(rt: HostRuntime) -> io::Result<()> {
+fn start(rt: &HostRuntime) -> io::Result<()> {
     let step = digest::begin(form::BYTES, SmallFamily::DIGEST_BITS, b"");
     let answer = step.answer;
     match answer {
-        Answer::Accepted => measure(&rt, step.state),
-        Answer::Refused(refusal) => streaming::print_refusal(&rt, refusal.number()),
+        Answer::Accepted => measure(rt, step.state),
+        Answer::Refused(refusal) => streaming::print_refusal(rt, refusal.number()),
+    }
+}
+
+// A write that fails shows in the exit status alone: to print why would take a loader many times its own size.
+fn main(rt: HostRuntime) -> ExitCode {
+    match start(&rt) {
+        Ok(()) => ExitCode::SUCCESS,
+        Err(_) => ExitCode::FAILURE,
     }
 }
