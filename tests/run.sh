@@ -198,7 +198,7 @@ for main in crates/*/src/main.rt; do
     program=$(basename "${main%/src/main.rt}")
     [ "$program" = fips_round ] && continue
     echo "$program"
-    "$objdump" -d --no-show-raw-insn "target/bin/$program" >"$made/functions"
+    "$objdump" -d --no-show-raw-insn "crates/$program/out/$program" >"$made/functions"
     case $program in
         first_stage)
             lacks expanded::by_tables

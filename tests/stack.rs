@@ -35,13 +35,13 @@ fn taken(instruction: &str) -> u64 {
     }
 }
 
-/// The function that an instruction goes to, as `call 2070 <NAME>`; a place inside one is left out.
+/// The function that an instruction goes to, as `call 2070 <NAME>`; a place inside one, as `<NAME+0x1c>`, is left out.
 fn called(instruction: &str) -> Option<String> {
     let mut words = instruction.splitn(3, char::is_whitespace).filter(|word| !word.is_empty());
     let goes = matches!(words.next()?, "call" | "callq" | "jmp" | "jmpq");
     let (_, name) = instruction.split_once('<')?;
     let name = name.strip_suffix('>')?;
-    (goes && !name.contains('+')).then(|| name.to_string())
+    (goes && !name.contains("+0x")).then(|| name.to_string())
 }
 
 fn functions(text: &str) -> BTreeMap<String, Function> {

@@ -1,7 +1,8 @@
 // Prints the check of the log on standard input.
 #![tactic(auto)]
-use libc::STDIN_FILENO;
 
-fn main() {
-    printing::print_check(STDIN_FILENO);
+use std::io;
+
+fn main(rt: HostRuntime) -> io::Result<()> {
+    printing::print_check(&rt, &mut rt.stdin())
 }

@@ -1,35 +1,34 @@
 // Prints, for each file that an argument names, the name and the check of the log in the file.
 #![tactic(auto)]
-use libc::STDOUT_FILENO;
 
-fn check_file(name: &[u8]) {
-    let file = os::open_read(name);
-    if file < 0 {
-        os::fail(name);
-        return;
+use std::io;
+use std::rt::Env;
+
+fn check_file(rt: &HostRuntime, name: &[u8]) -> io::Result<()> {
+    match command_line::open(rt, name) {
+        Ok(mut file) => {
+            rt.write_all(name)?;
+            rt.write_all(b"\n")?;
+            printing::print_check(rt, &mut file)
+        }
+        Err(error) => command_line::fail(&rt.stderr(), name, &error),
     }
-    io::write_all(STDOUT_FILENO, name);
-    io::write_all(STDOUT_FILENO, b"\n");
-    printing::print_check(file);
-    libc::close(file);
 }
 
-fn check_argument(i: usize) {
-    let mut name = io::buffer();
-    let size = os::arg(i, &mut name);
-    if os::errno() != 0 {
-        os::fail(b"argument");
-        return;
+fn check_argument(rt: &HostRuntime, i: usize) -> io::Result<()> {
+    let mut name = [0u8; 4096];
+    match rt.arg(i, &mut name) {
+        Ok(size) => check_file(rt, &name[..size]),
+        Err(error) => {
+            command_line::fail(&rt.stderr(), b"argument", &command_line::word_error(error))
+        }
     }
-    check_file(&name[..size]);
 }
 
 // A file that cannot be opened does not keep the next from being checked.
-fn main() {
-    let count = os::arg_count();
-    let mut i = 1;
-    while i < count {
-        check_argument(i);
-        i += 1;
+fn main(rt: HostRuntime) -> io::Result<()> {
+    for i in 1..command_line::count(&rt) {
+        check_argument(&rt, i)?;
     }
+    Ok(())
 }

@@ -1,5 +1,6 @@
 // The words behind a command: up to two names, an option that has a word behind it, and a flag.
 use hex_bytes::Decoded;
+use std::rt::Env;
 
 // Which argument is which, 0 where it is not given: the names, and the word behind the option; whether the flag is given; whether the option's word is
 // still to come; whether some word was one too many or unknown.
@@ -21,10 +22,12 @@ enum Kind {
     Unknown,
 }
 
-// A command that has no flag hands in an empty one, which no word that starts with `--` is.
-fn kind_of(i: usize, option: &[u8], flag: &[u8]) -> Kind {
-    let mut text = io::buffer();
-    let size = os::arg(i, &mut text);
+// A command that has no flag hands in an empty one, which no word that starts with `--` is. A word that is too long is no option and no flag.
+fn kind_of(rt: &impl Env, i: usize, option: &[u8], flag: &[u8]) -> Kind {
+    let mut text = [0u8; 4096];
+    let Ok(size) = rt.arg(i, &mut text) else {
+        return Kind::Name;
+    };
     if !fields::same(fields::part(&text[..size], 0, 2), b"--") {
         return Kind::Name;
     }
@@ -81,11 +84,11 @@ fn awaiting(asked: Asked) -> Asked {
     next
 }
 
-fn with(asked: Asked, i: usize, option: &[u8], flag: &[u8]) -> Asked {
+fn with(rt: &impl Env, asked: Asked, i: usize, option: &[u8], flag: &[u8]) -> Asked {
     if asked.awaited {
         return with_option(asked, i);
     }
-    match kind_of(i, option, flag) {
+    match kind_of(rt, i, option, flag) {
         Kind::Name => with_name(asked, i),
         Kind::Option => awaiting(asked),
         Kind::Flag => with_flag(asked),
@@ -105,13 +108,11 @@ fn nothing() -> Asked {
 }
 
 // The words behind the command, option and flag before, between or behind the names, each at most once.
-pub(crate) fn read(count: usize, option: &[u8], flag: &[u8]) -> Asked {
+pub(crate) fn read(rt: &impl Env, count: usize, option: &[u8], flag: &[u8]) -> Asked {
     let mut asked = nothing();
-    let mut i = 2;
-    while i < count {
-        let next = with(asked, i, option, flag);
+    for i in 2..count {
+        let next = with(rt, asked, i, option, flag);
         asked = next;
-        i += 1;
     }
     asked
 }
@@ -125,14 +126,13 @@ pub(crate) fn is_right(asked: Asked) -> bool {
 }
 
 // The bytes that argument i spells in hex, at the start of `out`: none where i is 0.
-pub(crate) fn hex_word(i: usize, out: &mut [u8]) -> Decoded {
+pub(crate) fn hex_word(rt: &impl Env, i: usize, out: &mut [u8]) -> Decoded {
     if i == 0 {
         return Decoded::Bytes(0);
     }
-    let mut text = io::buffer();
-    let size = os::arg(i, &mut text);
-    if os::errno() != 0 {
+    let mut text = [0u8; 4096];
+    let Ok(size) = rt.arg(i, &mut text) else {
         return Decoded::NoRoom;
-    }
+    };
     hex_bytes::decode(&text[..size], out)
 }

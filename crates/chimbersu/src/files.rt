@@ -1,5 +1,7 @@
 // Files that arguments name.
-ghost use Rattle.std.specs.Prelude.{◌≤◌, length};
+use std::io;
+use std::io::Read;
+use std::rt::Env;
 
 #[derive(Clone, Copy)]
 pub(crate) enum Loaded {
@@ -8,43 +10,40 @@ pub(crate) enum Loaded {
 }
 
 // Reads until the buffer is full or the file ends. A read that fails is no end: what came before it could pass for a whole file.
-fn read_all(file: i32, buffer: &mut [u8]) -> Loaded {
+fn read_all(file: &mut impl Read, buffer: &mut [u8]) -> io::Result<usize> {
     let mut done = 0;
     while done < buffer.len() {
-        let got = libc::read(file, &mut buffer[done..]);
-        if got < 0 {
-            return Loaded::Failed;
-        }
-        let n = io::count(got, &buffer[done..]);
+        let n = file.read(&mut buffer[done..])?;
         if n == 0 {
-            return Loaded::Bytes(done);
+            return Ok(done);
         }
         done += n;
     }
-    Loaded::Bytes(done)
+    Ok(done)
 }
 
-fn load_named(name: &[u8], buffer: &mut [u8]) -> Loaded {
-    let file = os::open_read(name);
-    if file < 0 {
-        os::fail(name);
-        return Loaded::Failed;
+fn read_named(rt: &HostRuntime, name: &[u8], buffer: &mut [u8]) -> io::Result<usize> {
+    let mut file = command_line::open(rt, name)?;
+    read_all(&mut file, buffer)
+}
+
+fn load_named(rt: &HostRuntime, name: &[u8], buffer: &mut [u8]) -> io::Result<Loaded> {
+    match read_named(rt, name, buffer) {
+        Ok(size) => Ok(Loaded::Bytes(size)),
+        Err(error) => failed(rt, name, &error),
     }
-    let loaded = read_all(file, buffer);
-    if let Loaded::Failed = loaded {
-        os::fail(name);
-    }
-    libc::close(file);
-    loaded
+}
+
+fn failed(rt: &HostRuntime, what: &[u8], error: &io::Error) -> io::Result<Loaded> {
+    command_line::fail(&rt.stderr(), what, error)?;
+    Ok(Loaded::Failed)
 }
 
 // The bytes of the file that argument i names, or as many as there is room for. A failure is said.
-pub(crate) fn load(i: usize, buffer: &mut [u8]) -> Loaded {
-    let mut name = io::buffer();
-    let size = os::arg(i, &mut name);
-    if os::errno() != 0 {
-        os::fail(b"file name");
-        return Loaded::Failed;
+pub(crate) fn load(rt: &HostRuntime, i: usize, buffer: &mut [u8]) -> io::Result<Loaded> {
+    let mut name = [0u8; 4096];
+    match rt.arg(i, &mut name) {
+        Ok(size) => load_named(rt, &name[..size], buffer),
+        Err(error) => failed(rt, b"file name", &command_line::word_error(error)),
     }
-    load_named(&name[..size], buffer)
 }

@@ -1,5 +1,6 @@
 // chimbersu: one program for people at the ward and the desk. Its first word is the command, and each command has a module of its own.
 #![tactic(auto)]
+
 mod asked;
 mod files;
 mod mac;
@@ -7,16 +8,19 @@ mod message;
 mod saying;
 mod writing;
 
-fn main() {
-    let mut word = io::buffer();
-    let size = os::arg(1, &mut word);
+use std::io;
+use std::rt::Env;
+
+fn main(rt: HostRuntime) -> io::Result<()> {
+    let mut word = [0u8; 4096];
+    let Ok(size) = rt.arg(1, &mut word) else {
+        return saying::help(&rt);
+    };
     if fields::same(&word[..size], b"write") {
-        writing::run();
-        return;
+        return writing::run(&rt);
     }
     if fields::same(&word[..size], b"mac") {
-        mac::run();
-        return;
+        return mac::run(&rt);
     }
-    saying::help();
+    saying::help(&rt)
 }

@@ -1,6 +1,7 @@
 // Standard input added to a keyed digest.
 use answers::Answer;
 use keyed_state::Keyed;
+use std::io::Read;
 use streaming::Status;
 
 #[derive(Clone, Copy)]
@@ -10,8 +11,8 @@ pub(crate) struct Turn {
 }
 
 // Reads once, and adds what came.
-fn add_some(keyed: Keyed, buffer: &mut [u8]) -> Turn {
-    let got = streaming::read_some(buffer);
+fn add_some(input: &mut impl Read, keyed: Keyed, buffer: &mut [u8]) -> Turn {
+    let got = streaming::read_some(input, buffer);
     if got.failed {
         return Turn {
             keyed: keyed,
@@ -39,19 +40,17 @@ fn add_some(keyed: Keyed, buffer: &mut [u8]) -> Turn {
     }
 }
 
-// Reads to the end. The turns are counted down, as in `streaming::add_all`.
-pub(crate) fn add_all(keyed: Keyed, buffer: &mut [u8]) -> Turn {
+// Reads to the end. The turns are bounded, as in `streaming::add_all`.
+pub(crate) fn add_all(input: &mut impl Read, keyed: Keyed, buffer: &mut [u8]) -> Turn {
     let mut reached = keyed;
-    let mut turns = u64::MAX;
-    while turns > 0 {
-        let turn = add_some(reached, buffer);
+    for _ in 0..u64::MAX {
+        let turn = add_some(input, reached, buffer);
         let status = turn.status;
         let Status::More = status else {
             return turn;
         };
         let next = turn.keyed;
         reached = next;
-        turns -= 1;
     }
     Turn {
         keyed: reached,

@@ -1,19 +1,13 @@
 // Prints the state after round 1 of FIPS 197's appendix B, column by column; the file stdout holds the standard's printed bytes.
 #![tactic(auto)]
-use libc::STDOUT_FILENO;
 
-fn print_column(a: [u8; 4]) {
-    io::print_hex(STDOUT_FILENO, a[0] as u64, 2);
-    io::write_all(STDOUT_FILENO, b" ");
-    io::print_hex(STDOUT_FILENO, a[1] as u64, 2);
-    io::write_all(STDOUT_FILENO, b" ");
-    io::print_hex(STDOUT_FILENO, a[2] as u64, 2);
-    io::write_all(STDOUT_FILENO, b" ");
-    io::print_hex(STDOUT_FILENO, a[3] as u64, 2);
-    io::write_all(STDOUT_FILENO, b"\n");
+use std::io;
+
+fn print_column(rt: &impl Print, a: [u8; 4]) -> io::Result<()> {
+    println!(rt; "{:02x} {:02x} {:02x} {:02x}", a[0], a[1], a[2], a[3])
 }
 
-fn main() {
+fn main(rt: HostRuntime) -> io::Result<()> {
     let start = [
         [0x19, 0x3d, 0xe3, 0xbe],
         [0xa0, 0xf4, 0xe2, 0x2b],
@@ -27,8 +21,8 @@ fn main() {
         [0x2a, 0x6c, 0x76, 0x05],
     ];
     let next = aes::round(start, key);
-    print_column(next[0]);
-    print_column(next[1]);
-    print_column(next[2]);
-    print_column(next[3]);
+    print_column(&rt, next[0])?;
+    print_column(&rt, next[1])?;
+    print_column(&rt, next[2])?;
+    print_column(&rt, next[3])
 }

@@ -3,7 +3,7 @@ ghost use Rattle.std.specs.Prelude.{◌≤◌};
 
 use crate::messages;
 use crate::messages::Message;
-use libc::STDOUT_FILENO;
+use std::io;
 
 fn put_words(line: &mut [u8], at: usize, words: [u32; 16], count: usize) -> usize
     requires { count ≤ 16 }
@@ -20,12 +20,18 @@ fn put_words(line: &mut [u8], at: usize, words: [u32; 16], count: usize) -> usiz
 }
 
 // Puts the first `count` words behind a label, and prints the line.
-pub(crate) fn print_words(line: &mut [u8], at: usize, words: [u32; 16], count: usize)
+pub(crate) fn print_words(
+    rt: &impl Print,
+    line: &mut [u8],
+    at: usize,
+    words: [u32; 16],
+    count: usize,
+) -> io::Result<()>
     requires { count ≤ 16 }
 {
     let end = put_words(line, at, words, count);
     let size = text::put(line, end, b"\n");
-    io::write_all(STDOUT_FILENO, text::first(line, size));
+    rt.write_all(text::first(line, size))
 }
 
 fn put_salted(line: &mut [u8], at: usize, salted: bool) -> usize {

@@ -1,7 +1,8 @@
 // Standard input, a chunk at a time, and the lines in it.
 use crate::calls::Current;
 use crate::{calls, words};
-use libc::{STDIN_FILENO, STDOUT_FILENO};
+use std::io;
+use std::io::Read;
 
 // How much of a line is kept so far, and the current states.
 #[derive(Clone, Copy)]
@@ -41,6 +42,7 @@ fn is_comment(line: &[u8]) -> bool {
 
 // Writes what a whole line gives, and hands back the states after it.
 fn reply(
+    rt: &impl Print,
     line: &[u8],
     current: Current,
     salt: &mut [u8],
@@ -48,18 +50,19 @@ fn reply(
     data: &mut [u8],
     lent: &mut [u8],
     out: &mut [u8],
-) -> Current {
+) -> io::Result<Current> {
     if is_comment(line) {
-        return current;
+        return Ok(current);
     }
     let answered = calls::answer(line, current, salt, bank, data, lent, out);
     let end = text::put(out, answered.size, b"\n");
-    io::write_all(STDOUT_FILENO, text::first(out, end));
-    answered.current
+    rt.write_all(text::first(out, end))?;
+    Ok(answered.current)
 }
 
 // Answers each line that ends in the chunk.
 fn feed(
+    rt: &impl Print,
     chunk: &[u8],
     kept: Kept,
     line: &mut [u8],
@@ -68,7 +71,7 @@ fn feed(
     data: &mut [u8],
     lent: &mut [u8],
     out: &mut [u8],
-) -> Kept {
+) -> io::Result<Kept> {
     let mut size = kept.size;
     let mut current = kept.current;
     let mut at = 0;
@@ -76,25 +79,26 @@ fn feed(
         let stop = words::until(chunk, at, b'\n');
         size = keep(line, size, &chunk[at..stop]);
         if stop == chunk.len() {
-            return Kept {
+            return Ok(Kept {
                 size: size,
                 current: current,
-            };
+            });
         }
         at = stop + 1;
         let whole = text::first(line, size);
-        let next = reply(whole, current, salt, bank, data, lent, out);
+        let next = reply(rt, whole, current, salt, bank, data, lent, out)?;
         current = next;
         size = 0;
     }
-    Kept {
+    Ok(Kept {
         size: size,
         current: current,
-    }
+    })
 }
 
 // Answers a last line that no line feed ends.
 fn end(
+    rt: &impl Print,
     kept: Kept,
     line: &[u8],
     salt: &mut [u8],
@@ -102,18 +106,20 @@ fn end(
     data: &mut [u8],
     lent: &mut [u8],
     out: &mut [u8],
-) {
+) -> io::Result<()> {
     let size = kept.size;
     let current = kept.current;
     if size > 0 {
         let whole = text::first(line, size);
-        reply(whole, current, salt, bank, data, lent, out);
+        reply(rt, whole, current, salt, bank, data, lent, out)?;
     }
+    Ok(())
 }
 
-// Answers every line of standard input. A proved loop has to end, and nothing says that the input does: so the loop counts its
-// turns down, from a number that no run uses up.
+// Answers every line of standard input, which ends where a read fails too. A proved loop has to end, and nothing says that the input does: so the
+// loop has as many turns as no run uses up.
 pub(crate) fn run(
+    rt: &HostRuntime,
     chunk: &mut [u8],
     line: &mut [u8],
     salt: &mut [u8],
@@ -121,17 +127,16 @@ pub(crate) fn run(
     data: &mut [u8],
     lent: &mut [u8],
     out: &mut [u8],
-) {
+) -> io::Result<()> {
+    let mut input = rt.stdin();
     let mut kept = at_start();
-    let mut turns = u64::MAX;
-    while turns > 0 {
-        turns -= 1;
-        let n = io::count(libc::read(STDIN_FILENO, chunk), chunk);
+    for _ in 0..u64::MAX {
+        let n = input.read(chunk).unwrap_or(0);
         if n == 0 {
-            end(kept, line, salt, bank, data, lent, out);
-            return;
+            return end(rt, kept, line, salt, bank, data, lent, out);
         }
         let next = feed(
+            rt,
             text::first(chunk, n),
             kept,
             line,
@@ -140,7 +145,8 @@ pub(crate) fn run(
             data,
             lent,
             out,
-        );
+        )?;
         kept = next;
     }
+    Ok(())
 }

@@ -1,14 +1,15 @@
 // What the program writes.
-use libc::{STDERR_FILENO, STDOUT_FILENO};
 use reports::Report;
+use std::io;
 
-pub(crate) fn complain(message: &[u8]) {
-    io::write_all(STDERR_FILENO, b"shavite3sum: ");
-    io::write_all(STDERR_FILENO, message);
-    io::write_all(STDERR_FILENO, b"\n");
+pub(crate) fn complain(rt: &HostRuntime, message: &[u8]) -> io::Result<()> {
+    let to = rt.stderr();
+    to.write_all(b"shavite3sum: ")?;
+    to.write_all(message)?;
+    to.write_all(b"\n")
 }
 
-fn print_digest(digest: &[u8], covered: u64, blocks: u64) {
+fn print_digest(rt: &impl Print, digest: &[u8], covered: u64, blocks: u64) -> io::Result<()> {
     let mut line = [0u8; 256];
     let a = text::put_hex(&mut line, 0, digest);
     let b = text::put(&mut line, a, b" ");
@@ -16,13 +17,22 @@ fn print_digest(digest: &[u8], covered: u64, blocks: u64) {
     let d = text::put(&mut line, c, b" ");
     let e = text::put_decimal(&mut line, d, blocks);
     let size = text::put(&mut line, e, b"\n");
-    io::write_all(STDOUT_FILENO, text::first(&line, size));
+    rt.write_all(text::first(&line, size))
 }
 
-pub(crate) fn print_report(report: Report, bytes: &[u8], count: usize) {
+pub(crate) fn print_report(
+    rt: &impl Print,
+    report: Report,
+    bytes: &[u8],
+    count: usize,
+) -> io::Result<()> {
     if report.number() != 0 {
-        streaming::print_refusal(STDOUT_FILENO, report.number());
-        return;
+        return streaming::print_refusal(rt, report.number());
     }
-    print_digest(text::first(bytes, count), report.covered(), report.blocks());
+    print_digest(
+        rt,
+        text::first(bytes, count),
+        report.covered(),
+        report.blocks(),
+    )
 }

@@ -1,8 +1,10 @@
 // What the programs that digest standard input share: a part of the input read, all of it added to a running digest, and the line of a refusal.
 #![tactic(auto)]
+
 use answers::{Answer, Refusal};
-use libc::STDIN_FILENO;
 use state::State;
+use std::io;
+use std::io::Read;
 
 #[derive(Clone, Copy)]
 pub enum Status {
@@ -26,11 +28,16 @@ pub struct Got {
 }
 
 // Reads once to the buffer's front.
-pub fn read_some(buffer: &mut [u8]) -> Got {
-    let got = libc::read(STDIN_FILENO, buffer);
-    Got {
-        size: io::count(got, buffer),
-        failed: got < 0,
+pub fn read_some(input: &mut impl Read, buffer: &mut [u8]) -> Got {
+    match input.read(buffer) {
+        Ok(size) => Got {
+            size: size,
+            failed: false,
+        },
+        Err(_) => Got {
+            size: 0,
+            failed: true,
+        },
     }
 }
 
@@ -42,8 +49,8 @@ fn status_of(answer: Answer) -> Status {
 }
 
 // Reads once, and adds what came.
-fn add_some(form: bool, state: State, buffer: &mut [u8]) -> Turn {
-    let got = read_some(buffer);
+fn add_some(input: &mut impl Read, form: bool, state: State, buffer: &mut [u8]) -> Turn {
+    let got = read_some(input, buffer);
     if got.failed {
         return Turn {
             state: state,
@@ -65,20 +72,17 @@ fn add_some(form: bool, state: State, buffer: &mut [u8]) -> Turn {
     }
 }
 
-// Reads to the end. A proved loop has to end, and nothing says that the input does: the turns are counted down from a number that no
-// run uses up.
-pub fn add_all(form: bool, state: State, buffer: &mut [u8]) -> Turn {
+// Reads to the end. A proved loop has to end, and nothing says that the input does: the turns are as many as no run uses up.
+pub fn add_all(input: &mut impl Read, form: bool, state: State, buffer: &mut [u8]) -> Turn {
     let mut reached = state;
-    let mut turns = u64::MAX;
-    while turns > 0 {
-        let turn = add_some(form, reached, buffer);
+    for _ in 0..u64::MAX {
+        let turn = add_some(input, form, reached, buffer);
         let status = turn.status;
         let Status::More = status else {
             return turn;
         };
         let next = turn.state;
         reached = next;
-        turns -= 1;
     }
     Turn {
         state: reached,
@@ -86,11 +90,11 @@ pub fn add_all(form: bool, state: State, buffer: &mut [u8]) -> Turn {
     }
 }
 
-// Writes the line of a refusal to an open file.
-pub fn print_refusal(file: i32, number: u8) {
+// Writes the line of a refusal to standard output or standard error.
+pub fn print_refusal(to: &impl Print, number: u8) -> io::Result<()> {
     let mut line = [0u8; 32];
     let at = text::put(&mut line, 0, b"refused ");
     let end = text::put_decimal(&mut line, at, number as u64);
     let size = text::put(&mut line, end, b"\n");
-    io::write_all(file, text::first(&line, size));
+    to.write_all(text::first(&line, size))
 }
