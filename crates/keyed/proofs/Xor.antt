@@ -3,7 +3,7 @@ use mathlib.Core.Path.{◌≡◌, refl, ap, ◌∙◌}
 use mathlib.Core.List.{List, [], ◌∷◌, ◌++◌, append_assoc, append-nil}
 use Prim.Native.Nat.{ℕ, zero, suc, ◌+◌, ◌≤◌, ◌<◌}
 use native.Mathlib.Omega.{arith}
-use native.Mathlib.Numerals.{add_one}
+use native.Mathlib.Numerals.{add-one}
 use lib.Bits.{bit_xor}
 use lib.ListN.{length, take, drop, get_or, set, length-replicate, get_or-replicate, drop_of_length-le}
 use lib.Seq.{take_all, take-suc, drop-cons, set_at, get_or_at, length-take-le}
@@ -60,7 +60,7 @@ module _ (d : List ℕ) (n p : ℕ) (full : length d ≡ n) where
         drop-cons d j 0 (omega arith),
         get_or_at (take j all) (get_or d j 0) (drop (suc j) d) 0 j l,
         set_at (take j all) (get_or d j 0) (drop (suc j) d) (bit_xor (get_or d j 0) p) j l,
-        add_one j,
+        add-one j,
         take-suc all j 0 (omega (arith, pad_length)),
         append_assoc,
         v,

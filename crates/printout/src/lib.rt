@@ -1,5 +1,6 @@
 // The text of one check: what the programs print.
 #![tactic(auto)]
+
 ghost use Rattle.std.specs.Prelude.{◌≡◌, length};
 ghost use Rattle.text.specs.Digits.{decimal_of, hex_of};
 ghost use Rattle.text.specs.Place.{placed};
