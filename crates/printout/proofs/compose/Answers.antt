@@ -56,7 +56,7 @@ word-f-requires c =
     let room2 : Room c.spaced_number-b.new.out c.spaced_number-b.result ((spaced c.in-Accepted.events ++ (spaced c.in-Accepted.blocks ++ (verdict_text c.in-Accepted.found ++ (feed ++ register_lines c.args.records.now c.in-Accepted.registers))))) = rest c.spaced_number-b.ensures room1 in
     let room3 : Room c.spaced_number-c.new.out c.spaced_number-c.result ((spaced c.in-Accepted.blocks ++ (verdict_text c.in-Accepted.found ++ (feed ++ register_lines c.args.records.now c.in-Accepted.registers)))) = rest c.spaced_number-c.ensures room2 in
     let room4 : Room c.spaced_number-d.new.out c.spaced_number-d.result ((verdict_text c.in-Accepted.found ++ (feed ++ register_lines c.args.records.now c.in-Accepted.registers))) = rest c.spaced_number-d.ensures room3 in
-    let room5 : Room c.verdict-e.new.0 c.verdict-e.result ((feed ++ register_lines c.args.records.now c.in-Accepted.registers)) = rest c.verdict-e.ensures room4 in
+    let room5 : Room c.verdict-e.new.out c.verdict-e.result ((feed ++ register_lines c.args.records.now c.in-Accepted.registers)) = rest c.verdict-e.ensures room4 in
     first {xs = feed} (register_lines c.args.records.now c.in-Accepted.registers) room5
 
 pub lines-requires : goal.lines-requires
@@ -67,7 +67,7 @@ lines-requires c =
     let room2 : Room c.spaced_number-b.new.out c.spaced_number-b.result ((spaced c.in-Accepted.events ++ (spaced c.in-Accepted.blocks ++ (verdict_text c.in-Accepted.found ++ (feed ++ register_lines c.args.records.now c.in-Accepted.registers))))) = rest c.spaced_number-b.ensures room1 in
     let room3 : Room c.spaced_number-c.new.out c.spaced_number-c.result ((spaced c.in-Accepted.blocks ++ (verdict_text c.in-Accepted.found ++ (feed ++ register_lines c.args.records.now c.in-Accepted.registers)))) = rest c.spaced_number-c.ensures room2 in
     let room4 : Room c.spaced_number-d.new.out c.spaced_number-d.result ((verdict_text c.in-Accepted.found ++ (feed ++ register_lines c.args.records.now c.in-Accepted.registers))) = rest c.spaced_number-d.ensures room3 in
-    let room5 : Room c.verdict-e.new.0 c.verdict-e.result ((feed ++ register_lines c.args.records.now c.in-Accepted.registers)) = rest c.verdict-e.ensures room4 in
+    let room5 : Room c.verdict-e.new.out c.verdict-e.result ((feed ++ register_lines c.args.records.now c.in-Accepted.registers)) = rest c.verdict-e.ensures room4 in
     rest c.word-f.ensures room5
 
 -- or the line of a refusal

@@ -16,17 +16,18 @@ compose-n-requires c = room c.args.log.now _ c.check-checked.ensures.result c.ch
 pub returns-then-out-n : goal.returns-then-out-n
 returns-then-out-n c =
     let whole : text_of c.check-checked.result c.check-checked.new.out ≡ printout_of c.args.log.now = printed c.args.log.now _ c.check-checked.ensures.result c.check-checked.ensures.buffer in
-    let sized : c.compose-n.result ≡ length (printout_of c.args.log.now) = omega (arith, c.compose-n.ensures.place, ap length whole) in let both = print_short c.args.log.now c.args.out.now sized c.if-out-n.true in
+    let sized : c.compose-n.result ≡ length (printout_of c.args.log.now) = omega (arith, c.compose-n.ensures.place, ap length whole) in
+    let both = print_short c.args.log.now c.args.out.now sized c.if-out-n.true in
     record { result = both.0; buffer = both.1 }
 
 pub slice_bounds-whole-end : goal.slice_bounds-whole-end
 slice_bounds-whole-end c =
-    let fits : c.compose-n.result ≤ length c.compose-n.new.0 = within c.compose-n.ensures (room c.args.log.now _ c.check-checked.ensures.result c.check-checked.ensures.buffer) in
+    let fits : c.compose-n.result ≤ length c.compose-n.new.out = within c.compose-n.ensures (room c.args.log.now _ c.check-checked.ensures.result c.check-checked.ensures.buffer) in
     fits
 
 pub slice_bounds-put-end : goal.slice_bounds-put-end
 slice_bounds-put-end c =
-    let fits : c.compose-n.result ≤ length c.compose-n.new.0 = within c.compose-n.ensures (room c.args.log.now _ c.check-checked.ensures.result c.check-checked.ensures.buffer) in
+    let fits : c.compose-n.result ≤ length c.compose-n.new.out = within c.compose-n.ensures (room c.args.log.now _ c.check-checked.ensures.result c.check-checked.ensures.buffer) in
     sym (length-take-le _ _ fits)
 
 pub returns : goal.returns
@@ -34,6 +35,6 @@ returns c =
     let whole : text_of c.check-checked.result c.check-checked.new.out ≡ printout_of c.args.log.now = printed c.args.log.now _ c.check-checked.ensures.result c.check-checked.ensures.buffer in
     let sized : c.compose-n.result ≡ length (printout_of c.args.log.now) = omega (arith, c.compose-n.ensures.place, ap length whole) in
     let a = c.args in
-    let e = (c.check-checked.ensures.result, c.check-checked.ensures.buffer) in
-    let text = front c.compose-n.ensures (room a.log.now _ e.0 e.1) ∙ whole in let both = print_put a.log.now a.out.now sized c.if-out-n.false (same_text a.out.now 0 text (c.put.ensures.place, c.put.ensures.buffer)).1 in
+    let text = front c.compose-n.ensures (room a.log.now _ c.check-checked.ensures.result c.check-checked.ensures.buffer) ∙ whole in
+    let both = print_put a.log.now a.out.now sized c.if-out-n.false (same_text a.out.now 0 text (c.put.ensures.place, c.put.ensures.buffer)).1 in
     record { result = both.0; buffer = both.1 }
