@@ -5,7 +5,7 @@ use native.Mathlib.Numerals.{add-one}
 use native.Mathlib.Omega.{arith}
 use native.Mathlib.Decide.{dec_lt}
 use mathlib.Core.List.{List}
-use lib.ListN.{length, get_or, take}
+use lib.ListN.{length, get_or}
 use lib.Seq.{sets, length-sets}
 use Rattle.words.specs.Words.{times, four_at, round_of, zero4}
 use Rattle.compress.specs.Cipher.{inner_of}

@@ -1,4 +1,3 @@
-use Prim.Native.Nat.{◌-◌}
 use borrow.Author.Rules.{rules}
 use mathlib.Core.List.{[]}
 use Rattle.aes.specs.Round.{mix_columns}

@@ -1,4 +1,3 @@
-use Prim.Native.Nat.{◌-◌}
 use borrow.Author.Rules.{rules}
 use Rattle.sbox.specs.Sbox.{sbox_of}
 use Rattle.aes.proofs.Columns.{turned_start, turned_more, turned_end}

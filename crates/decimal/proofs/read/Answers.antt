@@ -1,5 +1,4 @@
 use mathlib.Core.Path.{refl, ◌∙◌}
-use Prim.Native.Nat.{◌-◌}
 use native.Mathlib.Omega.{arith}
 use Rattle.answers.proofs.Tests.{fell, held}
 use Rattle.decimal.proofs.Digits.{digit_bounds, digit_passed, digit_missed, spelled_on, passed_least, digits_end, spelled_end}

@@ -1,5 +1,5 @@
 use mathlib.Core.Path.{refl, ◌∙◌, sym, ap}
-use Prim.Native.Nat.{◌+◌, ◌-◌}
+use Prim.Native.Nat.{◌+◌}
 use native.Mathlib.Omega.{arith}
 use lib.ListN.{length, drop, get_or}
 use lib.Seq.{sets, length-sets}

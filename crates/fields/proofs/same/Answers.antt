@@ -1,5 +1,4 @@
 use mathlib.Core.Path.{refl, sym, ◌∙◌}
-use Prim.Native.Nat.{◌-◌}
 use native.Mathlib.Omega.{arith}
 use Rattle.fields.proofs.Comparing.{same_long, same_more, same_apart, same_all}
 use Rattle.fields.proofs.same.Goals as goal

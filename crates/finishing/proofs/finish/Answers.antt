@@ -2,11 +2,11 @@
 -- the length that the type tells
 use mathlib.Core.Logic.{inr}
 use mathlib.Core.List.{[]}
-use mathlib.Core.Path.{◌≡◌, sym, ◌∙◌}
+use mathlib.Core.Path.{◌≡◌, ◌∙◌}
 use mathlib.Core.Bool.{true}
 use Prim.Native.Nat.{◌*◌}
 use native.Mathlib.Omega.{arith}
-use lib.ListN.{length, length-map}
+use lib.ListN.{length}
 use Rattle.family.specs.Family.{block_bytes}
 use Rattle.family.proofs.Sizes.{block_pos}
 use Rattle.counter.specs.Counter.{counter_of}

@@ -1,5 +1,4 @@
 use mathlib.Core.Path.{refl, sym, ◌∙◌}
-use Prim.Native.Nat.{◌-◌}
 use native.Mathlib.Omega.{arith}
 use Rattle.hex_bytes.proofs.Digits.{digit_passed, digit_missed, digits_end}
 use Rattle.hex_bytes.proofs.all_digits.Goals as goal

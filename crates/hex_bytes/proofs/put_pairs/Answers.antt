@@ -1,5 +1,4 @@
 use mathlib.Core.Path.{◌≡◌, refl}
-use Prim.Native.Nat.{◌-◌}
 use native.Mathlib.Omega.{arith}
 use lib.ListN.{length-set}
 use Rattle.hex_bytes.specs.Hex.{pairs}
@@ -23,8 +22,7 @@ overflow_add-out c =
 
 pub loop-i-preserved : goal.loop-i-preserved
 loop-i-preserved c =
-    let l = c.loop-i in
-    (
+    let l = c.loop-i in (
       omega arith,
       rw length-set l.invariant.1,
       rw l.invariant.2 (put_next c.args.text.now c.args.out.now l.i _ (omega arith) (omega (arith, c.digit-high.ensures, c.digit-low.ensures))),

@@ -12,17 +12,17 @@ loop-i-init c = (omega arith, refl)
 pub overflow_mul-value : goal.overflow_mul-value
 overflow_mul-value c =
     let room : c.loop-i.value < 2 ^ 56 =
-        let l = c.loop-i in
-        let a = c.args in
-        rw l.invariant.1 (number_room a.form.now (λ i. omega (arith, c.shared_slice_known-1.given i)) l.i (a.at + (a.count - l.i)) (omega (arith, c.requires.1))) in
+    let l = c.loop-i in
+    let a = c.args in
+    rw l.invariant.1 (number_room a.form.now (λ i. omega (arith, c.shared_slice_known-1.given i)) l.i (a.at + (a.count - l.i)) (omega (arith, c.requires.1))) in
     omega (arith, room)
 
 pub overflow_add-value : goal.overflow_add-value
 overflow_add-value c =
     let room : c.loop-i.value < 2 ^ 56 =
-        let l = c.loop-i in
-        let a = c.args in
-        rw l.invariant.1 (number_room a.form.now (λ i. omega (arith, c.shared_slice_known-1.given i)) l.i (a.at + (a.count - l.i)) (omega (arith, c.requires.1))) in
+    let l = c.loop-i in
+    let a = c.args in
+    rw l.invariant.1 (number_room a.form.now (λ i. omega (arith, c.shared_slice_known-1.given i)) l.i (a.at + (a.count - l.i)) (omega (arith, c.requires.1))) in
     omega (arith, room, c.wide.ensures, c.byte_at.ensures.1)
 
 pub loop-i-preserved : goal.loop-i-preserved

@@ -1,4 +1,3 @@
-use Prim.Native.Nat.{◌-◌}
 use mathlib.Core.Path.{refl, ◌∙◌, sym}
 use Rattle.state.proofs.Zeros.{zero_more, zero_end}
 use Rattle.state.proofs.zero_from.Goals as goal

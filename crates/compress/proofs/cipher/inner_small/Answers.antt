@@ -1,7 +1,6 @@
 use mathlib.Core.Path.{sym, ◌≡◌, refl}
 use Rattle.compress.proofs.Sixteen.{holds_at, steps_inner, steps_more}
 use borrow.Author.Rules.{rules}
-use Prim.Native.Nat.{◌-◌}
 use native.Mathlib.Omega.{arith}
 use Rattle.words.specs.Words.{four_at}
 use Rattle.compress.specs.Window.{small_words, steps_of}

@@ -1,6 +1,6 @@
 use mathlib.Core.Path.{sym, ap, ◌≡◌, refl, ◌∙◌}
 use mathlib.Core.List.{List, ◌++◌}
-use Prim.Native.Nat.{ℕ, ◌-◌, ◌*◌, ◌/◌, ◌%◌}
+use Prim.Native.Nat.{ℕ, ◌*◌, ◌/◌, ◌%◌}
 use lib.Seq.{length-sets}
 use Rattle.compress.proofs.Fours.{drop_stores}
 use Rattle.compress.proofs.Rounds.{halves_placed, halves_whole}

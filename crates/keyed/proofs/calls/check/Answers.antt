@@ -23,14 +23,14 @@ pub returns-then-alike : goal.returns-then-alike
 returns-then-alike c =
     let ok : keyed_consistent c.args.keyed ≡ true = held c.consistent.ensures c.if-not-consistent.false in
     let compared : c.alike.result ≡ same (state_tag c.args.keyed) c.args.tag.now =
-        let e = tag_front _ ok c.digest_bytes-size.ensures c.tag_of-right.ensures in
-        c.alike.ensures ∙ ap (λ (l : List ℕ). same l c.args.tag.now) (c.part.ensures ∙ e) in
+    let e = tag_front _ ok c.digest_bytes-size.ensures c.tag_of-right.ensures in
+    c.alike.ensures ∙ ap (λ (l : List ℕ). same l c.args.tag.now) (c.part.ensures ∙ e) in
     check_yes _ _ ok (sym compared ∙ c.if-alike.true)
 
 pub returns : goal.returns
 returns c =
     let ok : keyed_consistent c.args.keyed ≡ true = held c.consistent.ensures c.if-not-consistent.false in
     let compared : c.alike.result ≡ same (state_tag c.args.keyed) c.args.tag.now =
-        let e = tag_front _ ok c.digest_bytes-size.ensures c.tag_of-right.ensures in
-        c.alike.ensures ∙ ap (λ (l : List ℕ). same l c.args.tag.now) (c.part.ensures ∙ e) in
+    let e = tag_front _ ok c.digest_bytes-size.ensures c.tag_of-right.ensures in
+    c.alike.ensures ∙ ap (λ (l : List ℕ). same l c.args.tag.now) (c.part.ensures ∙ e) in
     check_no _ _ ok (sym compared ∙ c.if-alike.false)
