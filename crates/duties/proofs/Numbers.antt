@@ -107,13 +107,13 @@ seven = mathlib.Core.List.Memᴰ.tail (mathlib.Core.List.Memᴰ.head refl)
 
 refusal_listed : (s : Next) → Memᴰ (refusal_number (refusal s)) log_numbers
 refusal_listed steps.salt = seven
-refusal_listed (steps.saltBytes n) = six
+refusal_listed (steps.salt_bytes n) = six
 refusal_listed steps.registers = seven
-refusal_listed (steps.registerBytes r) = six
+refusal_listed (steps.register_bytes r) = six
 refusal_listed (steps.events r) = seven
 refusal_listed (steps.event r n) = mathlib.Core.List.Memᴰ.tail (mathlib.Core.List.Memᴰ.tail (mathlib.Core.List.Memᴰ.head refl))
 refusal_listed (steps.claims r) = seven
-refusal_listed (steps.claimBytes n) = six
+refusal_listed (steps.claim_bytes n) = six
 refusal_listed steps.end = six
 
 bad_listed : {log : List ℕ} {r : Refusal} {o : ℕ} → Bad log r o → Memᴰ (refusal_number r) log_numbers
