@@ -1,4 +1,5 @@
 pub mod Numbers
 pub mod One
+pub mod OneKeyed
 pub mod Two
 pub mod Three

@@ -9,7 +9,7 @@ use lib.ListN.{length}
 use native.Mathlib.Omega.{arith}
 use borrow.Author.Tests.{lt-leb, ltb-true}
 use Rattle.answers.specs.declared.refusal.Refusal.{Refusal}
-use Rattle.answers.specs.declared.refusal.Refusal.TheVariants.{DigestLength, SaltSize, MessageLimit, StateInconsistent, BufferShort, BitsUnfit, KeyLong}
+use Rattle.answers.specs.declared.refusal.Refusal.TheVariants.{DigestLength, SaltSize, MessageLimit, StateInconsistent, BufferShort, BitsUnfit}
 use Rattle.answers.specs.declared.refusal.Answer.{Answer}
 use Rattle.answers.specs.declared.refusal.Answer.TheVariants as answer
 use Rattle.log_answers.specs.declared.place.Place.TheVariants.{At, Nowhere}
@@ -34,20 +34,14 @@ use Rattle.saved_form.specs.Form.{form_of}
 use Rattle.loading.specs.Reading.{state_in}
 use Rattle.saving.specs.Calls.{save_answer, save_of, save_buffer}
 use Rattle.loading.specs.Calls.{load_answer, load_of}
-use Rattle.tag_answers.specs.Tagged.{tagged_number, tagged_covered, tagged}
-use Rattle.tag_answers.specs.TagCheck.{tag_check_number, tag_check_yes, tag_checked}
-use Rattle.fields.specs.Fields.{same}
-use Rattle.keyed_state.specs.Keyed.{tag_length, keyed_consistent}
-use Rattle.keyed.specs.Running.{state_tag}
-use Rattle.keyed.specs.Calls.{key_limit, key_begin_answer, key_begin_of, key_add_answer, key_add_of, key_finish_answer, key_finish_of, key_finish_buffer, key_check_answer, key_check_of}
 use Rattle.layout.specs.Layout.{reading_of}
 use Rattle.bootlog.specs.Check.{checked_at, check_of, check_buffer}
 use Rattle.bootlog.proofs.Verdicts.{check_answer, check_buffer_lem, refused_answer, refused_buffer}
 use Rattle.logger.specs.Write.{write_answer, write_of, write_buffer}
 use Rattle.text.specs.Place.{placed}
 use Rattle.printout.specs.Printout.{printout_of, print_of}
-use Rattle.duties.specs.Asked.{Asked, begin, add, finish, one_shot, save, load, read, check, print, write, key_begin, key_add, key_finish, key_check, answered, listed, StateBack, BufferKept, NothingReported, ValuesZero}
-use Rattle.duties.proofs.Numbers.{log_numbers, Read, whole, refused, judged_listed, judged_among, form_among, write_listed, written_number_lem, reported_number, tagged_number_lem, tag_checked_number, reading_read, reading_listed}
+use Rattle.duties.specs.Asked.{Asked, begin, add, finish, one_shot, save, load, read, check, print, write, answered, listed, StateBack, BufferKept, NothingReported, ValuesZero}
+use Rattle.duties.proofs.Numbers.{log_numbers, Read, whole, refused, judged_listed, judged_among, form_among, write_listed, written_number_lem, reported_number, reading_read, reading_listed}
 
 -- A check is refused by the log's reading, or for its buffer, or accepted.
 module _ (P : Checked → List ℕ → Type 0) (log out : List ℕ)
@@ -67,7 +61,7 @@ module _ (P : Checked → List ℕ → Type 0) (log out : List ℕ)
       by (reading.Whole at) e whole = rw (← check_answer log at e (length out) refl, ← check_buffer_lem log at e out refl) (room (ltb (length out) (34 * at.registers)) _ _ _ _ _)
 
 -- a call's number tells its answer
-not_accepted : {A : Type 0} (a : Answer) (x y : A) → (answer_number a ≡ 0 → ⊥) → if_accepted a x y ≡ y
+pub not_accepted : {A : Type 0} (a : Answer) (x y : A) → (answer_number a ≡ 0 → ⊥) → if_accepted a x y ≡ y
 not_accepted answer.Accepted x y h = absurd (h refl)
 not_accepted (answer.Refused r) x y h = refl
 
@@ -79,22 +73,13 @@ not_written : (a : Answer) (n : ℕ) → (written_number (written_if a n) ≡ 0 
 not_written answer.Accepted n h = absurd (h refl)
 not_written (answer.Refused r) n h = refl
 
-not_tagged : (a : Answer) (n : ℕ) → (tagged_number (tagged a n) ≡ 0 → ⊥) → tagged_covered (tagged a n) ≡ 0
-not_tagged answer.Accepted n h = absurd (h refl)
-not_tagged (answer.Refused r) n h = refl
-
-not_compared : (a : Answer) (right : Bool) → (tag_check_number (tag_checked a right) ≡ 0 → ⊥) → tag_check_yes (tag_checked a right) ≡ false
-not_compared answer.Accepted true h = absurd (h refl)
-not_compared answer.Accepted false h = absurd (h refl)
-not_compared (answer.Refused r) right h = refl
-
 -- what a check's refusal leaves
 abbrev Left : List ℕ → Checked → List ℕ → Type 0
 Left out c b = (check_number c ≡ 0 → ⊥) → (b ≡ out) × ((check_registers c ≡ 0) × (check_events c ≡ 0) × (check_blocks c ≡ 0) × (check_verdict c ≡ NoClaim))
 
 -- Every call ends with a listed result on every input, spoiled states and cut logs included.
 pub every_call_listed : (c : Asked) → Memᴰ (answered c) (listed c)
-unfolding answered listed begin_of begin_answer add_of add_answer finish_of finish_answer one_shot_of one_shot_answer save_of save_answer load_of load_answer print_of write_of key_begin_of key_begin_answer key_add_of key_add_answer key_finish_of key_finish_answer key_check_of key_check_answer
+unfolding answered listed begin_of begin_answer add_of add_answer finish_of finish_answer one_shot_of one_shot_answer save_of save_answer load_of load_answer print_of write_of
 every_call_listed (begin m salt) = judged_listed ((not (allowed m), DigestLength) ∷ (not (salt_fits (family_of m) salt), SaltSize) ∷ [])
 every_call_listed (add s xs) = judged_listed ((not (consistent_of s), StateInconsistent) ∷ (ltb limit (s.covered.0 + length xs), MessageLimit) ∷ [])
 every_call_listed (finish s last out) =
@@ -122,18 +107,10 @@ every_call_listed (print log out) = by (ltb (length out) (length (printout_of lo
     by true = Memᴰ.tail (Memᴰ.head refl)
     by false = Memᴰ.head refl
 every_call_listed (write salt starts events wish out) = rw (written_number_lem (write_answer salt starts events wish (length out)) _) (write_listed salt starts events wish (length out))
-every_call_listed (key_begin m K) = judged_listed ((not (tag_length m), DigestLength) ∷ (ltb key_limit (length K), KeyLong) ∷ [])
-every_call_listed (key_add k xs) =
-    judged_listed ((not (keyed_consistent k), StateInconsistent) ∷ (ltb limit (k.inner.covered.0 + length xs), MessageLimit) ∷ [])
-every_call_listed (key_finish k out) =
-    rw (tagged_number_lem (key_finish_answer k out) _)
-    (judged_listed ((not (keyed_consistent k), StateInconsistent) ∷ (ltb (length out) (digest_bytes k.inner.m), BufferShort) ∷ []))
-every_call_listed (key_check k tag) =
-    rw (tag_checked_number (key_check_answer k) (same (state_tag k) tag)) (judged_listed ((not (keyed_consistent k), StateInconsistent) ∷ []))
 
 -- A refusal hands back the state it was given, writes to no lent buffer and answers zero for every other value and count.
 pub refusal_leaves : (c : Asked) → (answered c ≡ 0 → ⊥) → StateBack c × BufferKept c × ValuesZero c
-unfolding answered StateBack BufferKept ValuesZero begin_of add_of finish_of finish_buffer one_shot_of one_shot_buffer save_of save_buffer load_of print_of placed write_of write_buffer key_begin_of key_add_of key_finish_of key_finish_buffer key_check_of
+unfolding answered StateBack BufferKept ValuesZero begin_of add_of finish_of finish_buffer one_shot_of one_shot_buffer save_of save_buffer load_of print_of placed write_of write_buffer
 refusal_leaves (begin m salt) h = (not_accepted (begin_answer m salt) _ _ h, tt, tt)
 refusal_leaves (add s xs) h = (not_accepted (add_answer s xs) _ _ h, tt, tt)
 refusal_leaves (finish s last out) h =
@@ -162,9 +139,3 @@ refusal_leaves (print log out) h = let z = by (ltb (length out) (length (printou
 refusal_leaves (write salt starts events wish out) h =
     let a = write_answer salt starts events wish (length out) in
     (tt, not_accepted a _ _ (λ e. h (written_number_lem a _ ∙ e)), not_written a _ h)
-refusal_leaves (key_begin m K) h = (not_accepted (key_begin_answer m K) _ _ h, tt, tt)
-refusal_leaves (key_add k xs) h = (not_accepted (key_add_answer k xs) _ _ h, tt, tt)
-refusal_leaves (key_finish k out) h =
-    let a = key_finish_answer k out in
-    (refl, not_accepted a _ _ (λ e. h (tagged_number_lem a _ ∙ e)), not_tagged a _ h)
-refusal_leaves (key_check k tag) h = (refl, tt, not_compared (key_check_answer k) (same (state_tag k) tag) h)

@@ -1,5 +1,5 @@
--- Every call of the digest, of its saved forms, of keyed digests and of the boot log with what it is given: what it answers, and what a refusal leaves (the letter's first duty).
-use Rattle.std.specs.Prelude.{◌≡◌, Bool, false, List, [], ◌∷◌, ℕ, length}
+-- Every call of the digest, of its saved forms and of the boot log with what it is given: what it answers, and what a refusal leaves (the letter's first duty).
+use Rattle.std.specs.Prelude.{◌≡◌, Bool, List, [], ◌∷◌, ℕ, length}
 use Rattle.log_answers.specs.declared.checked.Verdict.TheVariants.{NoClaim}
 use Rattle.reports.specs.declared.Report.{Report}
 use Rattle.answers.specs.Refusal.{answer_number}
@@ -15,11 +15,6 @@ use Rattle.digest.specs.Calls.{begin_of, add_of, one_shot_of, one_shot_buffer}
 use Rattle.finishing.specs.Finish.{finish_of, finish_buffer}
 use Rattle.saving.specs.Calls.{save_of, save_buffer}
 use Rattle.loading.specs.Calls.{load_of}
-use Rattle.tag_answers.specs.Tagged.{tagged_number, tagged_covered}
-use Rattle.tag_answers.specs.TagCheck.{tag_check_number, tag_check_yes}
-use Rattle.keyed_state.specs.declared.Keyed.{Keyed}
-use Rattle.keyed_state.specs.Keyed.{zero_keyed}
-use Rattle.keyed.specs.Calls.{key_begin_of, key_add_of, key_finish_of, key_finish_buffer, key_check_of}
 use Rattle.layout.specs.Layout.{reading_of}
 use Rattle.bootlog.specs.Check.{check_of, check_buffer}
 use Rattle.logger.specs.Write.{write_of, write_buffer}
@@ -27,7 +22,7 @@ use Rattle.text.specs.Place.{placed}
 use Rattle.printout.specs.Printout.{printout_of, print_of}
 
 -- A call: digest length and salt; state and bytes; state, last bits and buffer; digest length, salt, message and buffer; state and buffer; saved form; log;
--- log and buffer; salt, starting registers, events, wish for claims and buffer; tag length and key; keyed state and bytes, buffer or tag.
+-- log and buffer; salt, starting registers, events, wish for claims and buffer.
 pub data Asked : Type 0 where
   begin : ℕ → List ℕ → Asked
   add : State → List ℕ → Asked
@@ -39,10 +34,6 @@ pub data Asked : Type 0 where
   check : List ℕ → List ℕ → Asked
   print : List ℕ → List ℕ → Asked
   write : List ℕ → List ℕ → List ℕ → Bool → List ℕ → Asked
-  key_begin : ℕ → List ℕ → Asked
-  key_add : Keyed → List ℕ → Asked
-  key_finish : Keyed → List ℕ → Asked
-  key_check : Keyed → List ℕ → Asked
 
 -- the answer's number, 0 where the call is accepted
 unfoldable pub answered : Asked → ℕ
@@ -56,14 +47,9 @@ answered (read log) = reading_number (reading_of log)
 answered (check log out) = check_number (check_of log (length out))
 answered (print log out) = written_number (print_of log (length out))
 answered (write salt starts events wish out) = written_number (write_of salt starts events wish (length out))
-answered (key_begin m K) = answer_number (key_begin_of m K).answer
-answered (key_add k xs) = answer_number (key_add_of k xs).answer
-answered (key_finish k out) = tagged_number (key_finish_of k out).tagged
-answered (key_check k tag) = tag_check_number (key_check_of k tag).check
 
 -- Document 01, "Order: begin 1, 2; add 4, 3", and finish and one_shot_lem with document 02's 11 just before 5: finish 4, 11, 5; one_shot_lem 1, 2, 3, 11, 5. Of a log
--- 6, 7 and 8, then 5. Document 02, One: reader 9, 10, then 4; writer 4, 5. Three: 2, 7, 8, 5. Eight: start 1, 12; add 4, 3; finish 4, 5; tag
--- check 4. 0 stands for acceptance.
+-- 6, 7 and 8, then 5. Document 02, One: reader 9, 10, then 4; writer 4, 5. Three: 2, 7, 8, 5. 0 stands for acceptance.
 unfoldable pub listed : Asked → List ℕ
 listed (begin m salt) = 0 ∷ 1 ∷ 2 ∷ []
 listed (add s xs) = 0 ∷ 4 ∷ 3 ∷ []
@@ -75,13 +61,8 @@ listed (read log) = 0 ∷ 6 ∷ 7 ∷ 8 ∷ []
 listed (check log out) = 0 ∷ 6 ∷ 7 ∷ 8 ∷ 5 ∷ []
 listed (print log out) = 0 ∷ 5 ∷ []
 listed (write salt starts events wish out) = 0 ∷ 2 ∷ 7 ∷ 8 ∷ 5 ∷ []
-listed (key_begin m K) = 0 ∷ 1 ∷ 12 ∷ []
-listed (key_add k xs) = 0 ∷ 4 ∷ 3 ∷ []
-listed (key_finish k out) = 0 ∷ 4 ∷ 5 ∷ []
-listed (key_check k tag) = 0 ∷ 4 ∷ []
 
--- It hands back the state it was given; begin and load, which were given none, the all-zero state of the small family, and a keyed begin the all-zero
--- keyed state.
+-- It hands back the state it was given; begin and load, which were given none, the all-zero state of the small family.
 unfoldable pub StateBack : Asked → Type 0
 StateBack (begin m salt) = (begin_of m salt).state ≡ zero_state
 StateBack (add s xs) = (add_of s xs).state ≡ s
@@ -93,10 +74,6 @@ StateBack (read log) = Unit {0}
 StateBack (check log out) = Unit {0}
 StateBack (print log out) = Unit {0}
 StateBack (write salt starts events wish out) = Unit {0}
-StateBack (key_begin m K) = (key_begin_of m K).keyed ≡ zero_keyed
-StateBack (key_add k xs) = (key_add_of k xs).keyed ≡ k
-StateBack (key_finish k out) = (key_finish_of k out).keyed ≡ k
-StateBack (key_check k tag) = (key_check_of k tag).keyed ≡ k
 
 -- It writes to no lent buffer.
 unfoldable pub BufferKept : Asked → Type 0
@@ -110,16 +87,12 @@ BufferKept (read log) = Unit {0}
 BufferKept (check log out) = check_buffer log out ≡ out
 BufferKept (print log out) = placed out 0 (printout_of log) ≡ out
 BufferKept (write salt starts events wish out) = write_buffer salt starts events wish out ≡ out
-BufferKept (key_begin m K) = Unit {0}
-BufferKept (key_add k xs) = Unit {0}
-BufferKept (key_finish k out) = key_finish_buffer k out ≡ out
-BufferKept (key_check k tag) = Unit {0}
 
 -- of a report
 abbrev pub NothingReported : Report → Type 0
 NothingReported r = (report_covered r ≡ 0) × (report_bits r ≡ 0) × (report_blocks r ≡ 0)
 
--- It answers zero for every other value and count, noclaim for the verdict and no for a tag. The place of a log's refusal is no such value: it says where the log went bad
+-- It answers zero for every other value and count, and noclaim for the verdict. The place of a log's refusal is no such value: it says where the log went bad
 -- (document 02, Six).
 unfoldable pub ValuesZero : Asked → Type 0
 ValuesZero (begin m salt) = Unit {0}
@@ -134,7 +107,3 @@ ValuesZero (check log out) =
     × (check_verdict (check_of log (length out)) ≡ NoClaim)
 ValuesZero (print log out) = written_length (print_of log (length out)) ≡ 0
 ValuesZero (write salt starts events wish out) = written_length (write_of salt starts events wish (length out)) ≡ 0
-ValuesZero (key_begin m K) = Unit {0}
-ValuesZero (key_add k xs) = Unit {0}
-ValuesZero (key_finish k out) = tagged_covered (key_finish_of k out).tagged ≡ 0
-ValuesZero (key_check k tag) = tag_check_yes (key_check_of k tag).check ≡ false

@@ -51,8 +51,8 @@ pub(crate) fn at_start() -> Current {
 
 // The call that the first word names, where the words that follow are as many as it takes.
 fn named(line: &[u8]) -> Call {
-    let name = words::word(line, 0);
-    let n = words::arguments(line);
+    let name = line_words::word(line, 0);
+    let n = line_words::arguments(line);
     if n == 1 && fields::same(name, b"add") {
         return Call::Add;
     }

@@ -5,7 +5,7 @@ use crate::{calls, hashing, parse, show, words};
 use state::State;
 
 pub(crate) fn save(line: &[u8], state: State, lent: &mut [u8], out: &mut [u8]) -> usize {
-    let Bytes::Are(n) = parse::read_bytes(words::word(line, 1), lent) else {
+    let Bytes::Are(n) = parse::read_bytes(line_words::word(line, 1), lent) else {
         return show::unreadable(out);
     };
     if n > lent.len() {
@@ -19,7 +19,7 @@ pub(crate) fn save(line: &[u8], state: State, lent: &mut [u8], out: &mut [u8]) -
 }
 
 pub(crate) fn load(line: &[u8], state: State, data: &mut [u8], out: &mut [u8]) -> Said {
-    let Bytes::Are(n) = parse::read_bytes(words::word(line, 1), data) else {
+    let Bytes::Are(n) = parse::read_bytes(line_words::word(line, 1), data) else {
         return calls::unreadable(state, out);
     };
     hashing::stepped(out, b"load", loading::load(text::first(data, n)))

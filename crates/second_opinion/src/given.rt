@@ -14,16 +14,16 @@ enum Numbers {
 }
 
 fn state_numbers(line: &[u8]) -> Numbers {
-    let Kind::Is(family) = parse::read_family(words::word(line, 1)) else {
+    let Kind::Is(family) = parse::read_family(line_words::word(line, 1)) else {
         return Numbers::Unreadable;
     };
-    let Bits::Are(m) = parse::read_bits(words::word(line, 2)) else {
+    let Bits::Are(m) = parse::read_bits(line_words::word(line, 2)) else {
         return Numbers::Unreadable;
     };
-    let Number::Is(covered) = parse::read_number(words::word(line, 5)) else {
+    let Number::Is(covered) = parse::read_number(line_words::word(line, 5)) else {
         return Numbers::Unreadable;
     };
-    let Number::Is(compressed) = parse::read_number(words::word(line, 6)) else {
+    let Number::Is(compressed) = parse::read_number(line_words::word(line, 6)) else {
         return Numbers::Unreadable;
     };
     Numbers::Are(family, m, covered, compressed)
@@ -47,13 +47,13 @@ fn chain_of(bytes: [u8; 64]) -> [u32; 16] {
 
 // Whether the line's byte strings fill the state's arrays, which are filled with them.
 fn fill(line: &[u8], salt: &mut [u8], chain: &mut [u8], held: &mut [u8]) -> bool {
-    if !parse::fills(words::word(line, 3), salt) {
+    if !parse::fills(line_words::word(line, 3), salt) {
         return false;
     }
-    if !parse::fills(words::word(line, 4), chain) {
+    if !parse::fills(line_words::word(line, 4), chain) {
         return false;
     }
-    parse::fills(words::word(line, 7), held)
+    parse::fills(line_words::word(line, 7), held)
 }
 
 // The state that words 1 to 7 write out, consistent or not; where they write none, it is all zero.

@@ -28,10 +28,10 @@ pub(crate) fn form_for(n: usize) -> bool {
 }
 
 pub(crate) fn begin(line: &[u8], state: State, salt: &mut [u8], out: &mut [u8]) -> Said {
-    let Bits::Are(m) = parse::read_bits(words::word(line, 1)) else {
+    let Bits::Are(m) = parse::read_bits(line_words::word(line, 1)) else {
         return calls::unreadable(state, out);
     };
-    let Bytes::Are(n) = parse::read_bytes(words::word(line, 2), salt) else {
+    let Bytes::Are(n) = parse::read_bytes(line_words::word(line, 2), salt) else {
         return calls::unreadable(state, out);
     };
     stepped(
@@ -42,7 +42,7 @@ pub(crate) fn begin(line: &[u8], state: State, salt: &mut [u8], out: &mut [u8]) 
 }
 
 pub(crate) fn add(line: &[u8], state: State, data: &mut [u8], out: &mut [u8]) -> Said {
-    let Bytes::Are(n) = parse::read_bytes(words::word(line, 1), data) else {
+    let Bytes::Are(n) = parse::read_bytes(line_words::word(line, 1), data) else {
         return calls::unreadable(state, out);
     };
     stepped(
@@ -80,9 +80,9 @@ fn reported(out: &mut [u8], finished: digest::Finished) -> usize {
 
 pub(crate) fn finish(line: &[u8], state: State, lent: &mut [u8], out: &mut [u8]) -> usize {
     let Ending::Is(last, n) = read_ending(
-        words::word(line, 1),
-        words::word(line, 2),
-        words::word(line, 3),
+        line_words::word(line, 1),
+        line_words::word(line, 2),
+        line_words::word(line, 3),
         lent,
     ) else {
         return show::unreadable(out);
@@ -105,9 +105,9 @@ fn into_buffer(
     out: &mut [u8],
 ) -> usize {
     let Ending::Is(last, n) = read_ending(
-        words::word(line, 4),
-        words::word(line, 5),
-        words::word(line, 6),
+        line_words::word(line, 4),
+        line_words::word(line, 5),
+        line_words::word(line, 6),
         lent,
     ) else {
         return show::unreadable(out);
@@ -128,13 +128,13 @@ pub(crate) fn one_shot(
     lent: &mut [u8],
     out: &mut [u8],
 ) -> usize {
-    let Bits::Are(m) = parse::read_bits(words::word(line, 1)) else {
+    let Bits::Are(m) = parse::read_bits(line_words::word(line, 1)) else {
         return show::unreadable(out);
     };
-    let Bytes::Are(s) = parse::read_bytes(words::word(line, 2), salt) else {
+    let Bytes::Are(s) = parse::read_bytes(line_words::word(line, 2), salt) else {
         return show::unreadable(out);
     };
-    let Bytes::Are(d) = parse::read_bytes(words::word(line, 3), data) else {
+    let Bytes::Are(d) = parse::read_bytes(line_words::word(line, 3), data) else {
         return show::unreadable(out);
     };
     into_buffer(

@@ -76,7 +76,7 @@ fn feed(
     let mut current = kept.current;
     let mut at = 0;
     while at < chunk.len() {
-        let stop = words::until(chunk, at, b'\n');
+        let stop = line_words::until(chunk, at, b'\n');
         size = keep(line, size, &chunk[at..stop]);
         if stop == chunk.len() {
             return Ok(Kept {

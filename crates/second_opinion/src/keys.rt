@@ -23,8 +23,8 @@ enum Call {
 
 // The call that the first word names, where the words that follow are as many as it takes.
 fn named(line: &[u8]) -> Call {
-    let name = words::word(line, 0);
-    let n = words::arguments(line);
+    let name = line_words::word(line, 0);
+    let n = line_words::arguments(line);
     if n == 1 && fields::same(name, b"keyadd") {
         return Call::Add;
     }
@@ -63,10 +63,10 @@ fn stepped(out: &mut [u8], name: &[u8], step: Step) -> Said {
 }
 
 fn begin(line: &[u8], keyed: Keyed, data: &mut [u8], out: &mut [u8]) -> Said {
-    let Bits::Are(m) = parse::read_bits(words::word(line, 1)) else {
+    let Bits::Are(m) = parse::read_bits(line_words::word(line, 1)) else {
         return unreadable(keyed, out);
     };
-    let Bytes::Are(n) = parse::read_bytes(words::word(line, 2), data) else {
+    let Bytes::Are(n) = parse::read_bytes(line_words::word(line, 2), data) else {
         return unreadable(keyed, out);
     };
     stepped(
@@ -83,7 +83,7 @@ fn given(line: &[u8], keyed: Keyed, out: &mut [u8]) -> Said {
     if !spelled.readable {
         return unreadable(keyed, out);
     }
-    if !parse::fills(words::word(line, 8), &mut key) {
+    if !parse::fills(line_words::word(line, 8), &mut key) {
         return unreadable(keyed, out);
     }
     let inner = spelled.state;
@@ -99,7 +99,7 @@ fn given(line: &[u8], keyed: Keyed, out: &mut [u8]) -> Said {
 }
 
 fn add(line: &[u8], keyed: Keyed, data: &mut [u8], out: &mut [u8]) -> Said {
-    let Bytes::Are(n) = parse::read_bytes(words::word(line, 1), data) else {
+    let Bytes::Are(n) = parse::read_bytes(line_words::word(line, 1), data) else {
         return unreadable(keyed, out);
     };
     stepped(
@@ -119,7 +119,7 @@ fn reported(out: &mut [u8], finished: Finished) -> usize {
 }
 
 fn finish(line: &[u8], keyed: Keyed, lent: &mut [u8], out: &mut [u8]) -> usize {
-    let Bytes::Are(n) = parse::read_bytes(words::word(line, 1), lent) else {
+    let Bytes::Are(n) = parse::read_bytes(line_words::word(line, 1), lent) else {
         return show::unreadable(out);
     };
     if n > lent.len() {
@@ -140,7 +140,7 @@ fn judged(out: &mut [u8], compared: Compared) -> usize {
 }
 
 fn check(line: &[u8], keyed: Keyed, data: &mut [u8], out: &mut [u8]) -> usize {
-    let Bytes::Are(n) = parse::read_bytes(words::word(line, 1), data) else {
+    let Bytes::Are(n) = parse::read_bytes(line_words::word(line, 1), data) else {
         return show::unreadable(out);
     };
     judged(

@@ -17,10 +17,10 @@ fn into_buffer(log: &[u8], word: &[u8], lent: &mut [u8], out: &mut [u8]) -> usiz
 }
 
 pub(crate) fn check(line: &[u8], data: &mut [u8], lent: &mut [u8], out: &mut [u8]) -> usize {
-    let Bytes::Are(n) = parse::read_bytes(words::word(line, 1), data) else {
+    let Bytes::Are(n) = parse::read_bytes(line_words::word(line, 1), data) else {
         return show::unreadable(out);
     };
-    into_buffer(text::first(data, n), words::word(line, 2), lent, out)
+    into_buffer(text::first(data, n), line_words::word(line, 2), lent, out)
 }
 
 // A log of parts that are read, into the buffer that the line holds.
@@ -33,7 +33,7 @@ fn write_into(
     lent: &mut [u8],
     out: &mut [u8],
 ) -> usize {
-    let Bytes::Are(n) = parse::read_bytes(words::word(line, 5), lent) else {
+    let Bytes::Are(n) = parse::read_bytes(line_words::word(line, 5), lent) else {
         return show::unreadable(out);
     };
     if n > lent.len() {
@@ -55,10 +55,10 @@ fn write_parts(
     lent: &mut [u8],
     out: &mut [u8],
 ) -> usize {
-    let Bytes::Are(r) = parse::read_bytes(words::word(line, 2), bank) else {
+    let Bytes::Are(r) = parse::read_bytes(line_words::word(line, 2), bank) else {
         return show::unreadable(out);
     };
-    let Bytes::Are(n) = parse::read_bytes(words::word(line, 3), data) else {
+    let Bytes::Are(n) = parse::read_bytes(line_words::word(line, 3), data) else {
         return show::unreadable(out);
     };
     write_into(
@@ -80,13 +80,13 @@ pub(crate) fn write(
     lent: &mut [u8],
     out: &mut [u8],
 ) -> usize {
-    let Number::Is(claims) = parse::read_number(words::word(line, 4)) else {
+    let Number::Is(claims) = parse::read_number(line_words::word(line, 4)) else {
         return show::unreadable(out);
     };
     if claims > 1 {
         return show::unreadable(out);
     }
-    let Bytes::Are(s) = parse::read_bytes(words::word(line, 1), salt) else {
+    let Bytes::Are(s) = parse::read_bytes(line_words::word(line, 1), salt) else {
         return show::unreadable(out);
     };
     write_parts(

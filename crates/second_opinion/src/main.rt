@@ -12,7 +12,7 @@ mod logs;
 mod parse;
 mod rounds;
 mod show;
-mod words;
+mod line_words;
 
 use std::io;
 

@@ -50,10 +50,10 @@ fn by_tables(state: [u8; 16], subkey: [u8; 16]) -> [u8; 16] {
 pub(crate) fn round(line: &[u8], out: &mut [u8]) -> usize {
     let mut state = [0u8; 16];
     let mut subkey = [0u8; 16];
-    if !parse::fills(words::word(line, 1), &mut state) {
+    if !parse::fills(line_words::word(line, 1), &mut state) {
         return show::unreadable(out);
     }
-    if !parse::fills(words::word(line, 2), &mut subkey) {
+    if !parse::fills(line_words::word(line, 2), &mut subkey) {
         return show::unreadable(out);
     }
     let bytes = joined(aes::round(columns(state), columns(subkey)));

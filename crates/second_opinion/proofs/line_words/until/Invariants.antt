@@ -1,6 +1,6 @@
 -- Each turn passes a byte, from the start on.
 use Rattle.std.proofs.Common.{◌-◌, ◌≤◌, length}
-use Rattle.second_opinion.proofs.words.until.Given as goal
+use Rattle.second_opinion.proofs.line_words.until.Given as goal
 
 abbrev pub invariant-loop-i : goal.invariant-loop-i
 invariant-loop-i l = (l.from ≤ l.i) × (l.i ≤ length l.bytes)

@@ -1,6 +1,6 @@
 -- Each turn passes a byte.
 use Rattle.std.proofs.Common.{◌-◌, ◌≤◌, length}
-use Rattle.second_opinion.proofs.words.start.Given as goal
+use Rattle.second_opinion.proofs.line_words.start.Given as goal
 
 abbrev pub invariant-loop-at : goal.invariant-loop-at
 invariant-loop-at l = l.at ≤ length l.line
