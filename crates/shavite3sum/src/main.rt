@@ -6,9 +6,8 @@ mod arguments;
 mod output;
 
 use answers::Answer;
-use arguments::Salt;
+use arguments::{Asked, Salt};
 use bits::LastBits;
-use decimal::Number;
 use state::State;
 use std::io;
 use streaming::Status;
@@ -56,8 +55,8 @@ fn main(rt: HostRuntime) -> io::Result<()> {
         return output::complain(&rt, b"too many arguments: shavite3sum [M [SALT-HEX]]");
     }
     match arguments::digest_bits(&rt, count) {
-        Number::Is(m) => run_salted(&rt, m, count),
-        Number::Bad => output::complain(
+        Asked::Bits(m) => run_salted(&rt, m, count),
+        Asked::Bad => output::complain(
             &rt,
             b"the digest length is not a decimal number up to 65535",
         ),
