@@ -58,12 +58,17 @@ while read -r name; do
     cat "samples/${name%.log}.txt"
 done <crates/bootchecks/args | cmp - crates/bootchecks/stdout
 
-rt fmt --check
+# The layout is looked at by rt ci itself. An edit that is bad shows nothing, so it fails here.
 status=0
 rt ci 2>&1 | tee "$made/ci" || status=$?
 passed=$(sed -n '$s/^\([0-9]*\) passed, 0 failed$/\1/p' "$made/ci")
 have passed "${passed:-0}"
 [ "$status" = 0 ]
+grep '^rt: ok' "$made/ci" >"$made/ok"
+if grep -qE ', [0-9]+ bad' "$made/ok"; then
+    echo "tests/run.sh: rt ci found must-fail edits that are bad" >&2
+    exit 1
+fi
 runs=0
 one_more() { runs=$((runs + 1)); }
 
