@@ -1,5 +1,5 @@
 #!/usr/bin/env python3
-"""Spells this repository's own definitions and lemmas in snake case, after /opt/rattle/port/port.py: addOf becomes add_of, chain-length chain_length.
+"""Spells this repository's own definitions and lemmas in snake case, after the kit's port.py: addOf becomes add_of, chain-length chain_length.
 
 usage: python3 tools/respell.py [--check]      at the top, once
 
