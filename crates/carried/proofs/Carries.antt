@@ -99,7 +99,7 @@ module _ (m : ℕ) (salt : List ℕ) (h : begin_answer m salt ≡ Accepted) (mov
   pub moves_length : length (joined_by (begin_of m salt).state moves) ≤ limit
   moves_length = rw by_calls.1 (joined_length m salt (calls moves) h)
 
-  -- Finishing it with any last bits reports and writes what one_shot_lem does for those bytes and bits.
+  -- Finishing it with any last bits reports and writes what one-shot does for those bytes and bits.
   pub moves_finish : (last : LastBits) (out : List ℕ)
       → ((finish_of (after_moves (begin_of m salt).state moves) last out).report ≡ one_shot_of m salt (message_of (joined_by (begin_of m salt).state moves) last) out)
       × (finish_buffer (after_moves (begin_of m salt).state moves) last out ≡ one_shot_buffer m salt (message_of (joined_by (begin_of m salt).state moves) last) out)

@@ -56,7 +56,7 @@ pub both_held : second_held (1 ∷ []) (2 ∷ []) ≡ 2
 unfolding after after_call begin_of begin_answer add_of add_answer absorbed held_of state_of consistent_of zero_past all_zero belongs allowed salt_fits family_of chain_over whole_blocks fill start_of master_of compress_of small_output small_cipher halves_round inner_of expand_of run_of nonlinear_run linear_run group_of linear_of taps_of last_of counts_of enters places back times four_at xor4 round_of column_of from_column from_bytes words_of word_at aes_round sub_bytes shift_rows mix_columns add_round_key sbox_of sbox_table counter_of
 both_held = refl
 
--- One that invents its block count: the count of an accepted one_shot_lem is the length of the definition's list: 1 for no byte, 2 for 54.
+-- One that invents its block count: the count of an accepted one-shot is the length of the definition's list: 1 for no byte, 2 for 54.
 pub count_is : (m : ℕ) (salt : List ℕ) (x : Message) (out : List ℕ) → one_shot_answer m salt x out ≡ Accepted
     → report_blocks (one_shot_of m salt x out) ≡ length (blocks_of (family_of m) m x)
 unfolding one_shot_of

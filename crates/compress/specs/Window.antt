@@ -1,5 +1,5 @@
 -- The small family's words through a window of sixteen, and its cipher's steps: what private functions' contracts cite. Of the public ones `small` cites
--- `smallWords` and `halvesIn`, and `feed` `halvesAt`; a reader of the others needs none of it.
+-- `small_words` and `halves_in`, and `feed` `halves_at`; a reader of the others needs none of it.
 use Rattle.std.specs.Prelude.{ℕ, zero, suc, ◌+◌, ◌-◌, ◌*◌, ◌%◌, ◌≤◌, ◌<◌, ◌≡◌, List, [], ◌∷◌, ◌++◌, get_or, drop}
 use Rattle.std.specs.Int.Bits.{bit_xor}
 use Rattle.family.specs.declared.Family.TheVariants.{Small}

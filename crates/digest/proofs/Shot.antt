@@ -1,4 +1,4 @@
--- Finishing the state of a message gives what one_shot_lem gives for it.
+-- Finishing the state of a message gives what one-shot gives for it.
 use mathlib.Core.Path.{◌≡◌}
 use mathlib.Core.Bool.{Bool, true, false, not}
 use mathlib.Core.List.{List, [], ◌∷◌}
@@ -45,7 +45,7 @@ module _ (m : ℕ) (salt : List ℕ) (h : begin_answer m salt ≡ Accepted) wher
       unfolding finish_answer one_shot_answer state_of
       same_answer = rw (consistent, begin_accepted.0, begin_accepted.1, le-ltb limit (length xs) room)
 
-      -- Finishing the state of xs with last bits reports and writes what one_shot_lem does for xs and those bits.
+      -- Finishing the state of xs with last bits reports and writes what one-shot does for xs and those bits.
       pub finish_one_shot : ((finish_of (state_of m salt xs) last out).report ≡ one_shot_of m salt (message_of xs last) out)
           × (finish_buffer (state_of m salt xs) last out ≡ one_shot_buffer m salt (message_of xs last) out)
       unfolding finish_of one_shot_of finish_buffer one_shot_buffer state_of

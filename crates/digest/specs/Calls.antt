@@ -1,5 +1,5 @@
--- Begin, add and one_shot_lem, as total functions of their inputs: each with its tests in document 01's order, its result, and what its lent buffer holds
--- afterwards. Finish, on which one_shot_lem ends, stands in the crate below.
+-- Begin, add and one-shot, as total functions of their inputs: each with its tests in document 01's order, its result, and what its lent buffer holds
+-- afterwards. Finish, on which one-shot ends, stands in the crate below.
 use Rattle.std.specs.Prelude.{Bool, not, ◌||◌, List, [], ◌∷◌, ℕ, ◌+◌, eqb, ltb, length}
 use Rattle.family.specs.declared.Family.{Family}
 use Rattle.family.specs.Family.{family_of, salt_bytes}

@@ -27,7 +27,7 @@ use Rattle.bootlog.specs.Check.{ends_of, log_records, checked_at, check_of, chec
 use Rattle.bootlog.proofs.Verdicts.{check_answer}
 use Rattle.bootlog.proofs.Recorded.{recorded}
 
--- For each salt, each digest length from 1 to 512 bits and each message up to 2^64 - 1 bits, whose last bits fit, one_shot_lem is accepted and the buffer's first
+-- For each salt, each digest length from 1 to 512 bits and each message up to 2^64 - 1 bits, whose last bits fit, one-shot is accepted and the buffer's first
 -- bytes, m/8 rounded up, become the digest.
 module _ (m : ℕ) (salt : List ℕ) (x : Message) (out : List ℕ) (ok : allowed m ≡ true) (fits : salt_fits (family_of m) salt ≡ true)
     (within : bit_length x ≤ bit_limit) (last_Fits : last_fits x.last ≡ true) (room : digest_bytes m ≤ length out) where

@@ -48,7 +48,7 @@ answered (check log out) = check_number (check_of log (length out))
 answered (print log out) = written_number (print_of log (length out))
 answered (write salt starts events wish out) = written_number (write_of salt starts events wish (length out))
 
--- Document 01, "Order: begin 1, 2; add 4, 3", and finish and one_shot_lem with document 02's 11 just before 5: finish 4, 11, 5; one_shot_lem 1, 2, 3, 11, 5. Of a log
+-- Document 01, "Order: begin 1, 2; add 4, 3", and finish and one-shot with document 02's 11 just before 5: finish 4, 11, 5; one-shot 1, 2, 3, 11, 5. Of a log
 -- 6, 7 and 8, then 5. Document 02, One: reader 9, 10, then 4; writer 4, 5. Three: 2, 7, 8, 5. 0 stands for acceptance.
 unfoldable pub listed : Asked → List ℕ
 listed (begin m salt) = 0 ∷ 1 ∷ 2 ∷ []

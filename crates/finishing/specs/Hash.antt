@@ -1,4 +1,4 @@
--- One message from a chain to start from, under a salt of 64 bytes, as a total function of its inputs: what one_shot_lem does behind its start-up.
+-- One message from a chain to start from, under a salt of 64 bytes, as a total function of its inputs: what one-shot does behind its start-up.
 use Rattle.std.specs.Prelude.{not, List, [], ◌∷◌, ℕ, ltb, length}
 use Rattle.family.specs.Family.{family_of}
 use Rattle.answers.specs.declared.refusal.Refusal.TheVariants.{DigestLength, MessageLimit, BufferShort, BitsUnfit}

@@ -1,4 +1,4 @@
--- The number and values of what finish and one_shot_lem report (document 01: "those of finish and one_shot_lem report covered and compressed as 0";
+-- The number and values of what finish and one-shot report (document 01: "those of finish and one-shot report covered and compressed as 0";
 -- document 02, Five: "the report of coverage becomes bytes and bits").
 use Rattle.std.specs.Prelude.{ℕ}
 use Rattle.answers.specs.declared.refusal.Answer.{Answer}

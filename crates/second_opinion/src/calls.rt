@@ -1,5 +1,5 @@
 // The calls that a line can make, by name. Each fills `out` with what the line gives, and answers how long that is.
-use crate::{forms, given, hashing, keys, logs, rounds, show, words};
+use crate::{forms, given, hashing, keys, line_words, logs, rounds, show};
 use keyed_state::Keyed;
 use state::State;
 

@@ -1,7 +1,7 @@
 // The calls on saved forms.
 use crate::calls::Said;
 use crate::parse::Bytes;
-use crate::{calls, hashing, parse, show, words};
+use crate::{calls, hashing, line_words, parse, show};
 use state::State;
 
 pub(crate) fn save(line: &[u8], state: State, lent: &mut [u8], out: &mut [u8]) -> usize {

@@ -1,7 +1,7 @@
 // A state written out in a line.
 use crate::calls::Said;
 use crate::parse::{Bits, Kind, Number};
-use crate::{calls, parse, show, words};
+use crate::{calls, line_words, parse, show};
 use family::Family;
 use reports::Length;
 use state::State;

@@ -1,7 +1,7 @@
 // The calls of the digest.
 use crate::calls::Said;
 use crate::parse::{Bits, Bytes, Last};
-use crate::{calls, parse, show, words};
+use crate::{calls, line_words, parse, show};
 use bits::LastBits;
 use state::State;
 

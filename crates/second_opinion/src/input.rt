@@ -1,6 +1,6 @@
 // Standard input, a chunk at a time, and the lines in it.
 use crate::calls::Current;
-use crate::{calls, words};
+use crate::{calls, line_words};
 use std::io;
 use std::io::Read;
 

@@ -1,6 +1,6 @@
 // The calls of keyed digests.
 use crate::parse::{Bits, Bytes};
-use crate::{given, hashing, parse, show, words};
+use crate::{given, hashing, line_words, parse, show};
 use keyed::{Compared, Finished, Step};
 use keyed_state::Keyed;
 

@@ -1,6 +1,6 @@
 // The calls of the boot log: check and write.
 use crate::parse::{Bytes, Number};
-use crate::{parse, show, words};
+use crate::{line_words, parse, show};
 
 // The check of a log that is read, with the word of the buffer.
 fn into_buffer(log: &[u8], word: &[u8], lent: &mut [u8], out: &mut [u8]) -> usize {

@@ -8,11 +8,11 @@ mod given;
 mod hashing;
 mod input;
 mod keys;
+mod line_words;
 mod logs;
 mod parse;
 mod rounds;
 mod show;
-mod line_words;
 
 use std::io;
 

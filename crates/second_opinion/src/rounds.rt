@@ -1,5 +1,5 @@
 // The AES round in both forms, on a state and a subkey of 16 bytes each, column by column.
-use crate::{parse, show, words};
+use crate::{line_words, parse, show};
 
 fn columns(b: [u8; 16]) -> [[u8; 4]; 4] {
     [

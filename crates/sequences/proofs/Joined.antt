@@ -1,4 +1,4 @@
--- Sequences of calls from an accepted begin: only the accepted bytes, joined, matter, and finishing gives what one_shot_lem gives for them.
+-- Sequences of calls from an accepted begin: only the accepted bytes, joined, matter, and finishing gives what one-shot gives for them.
 use mathlib.Core.Path.{◌≡◌, refl}
 use mathlib.Core.Bool.{true, false}
 use mathlib.Core.List.{List, [], ◌∷◌, ◌++◌, append_assoc, append-nil}
@@ -115,7 +115,7 @@ module _ (m : ℕ) (salt : List ℕ) where
     pub joined_length : length (joined (begin_of m salt).state calls) ≤ limit
     joined_length = rw (begin_state m salt h) (joined_room [] (omega arith) calls)
 
-    -- Finishing it with any last bits reports and writes what one_shot_lem does for those bytes and bits.
+    -- Finishing it with any last bits reports and writes what one-shot does for those bytes and bits.
     pub calls_finish : (last : LastBits) (out : List ℕ)
         → ((finish_of (after (begin_of m salt).state calls) last out).report ≡ one_shot_of m salt (message_of (joined (begin_of m salt).state calls) last) out)
         × (finish_buffer (after (begin_of m salt).state calls) last out ≡ one_shot_buffer m salt (message_of (joined (begin_of m salt).state calls) last) out)

@@ -74,7 +74,7 @@ module _ (m : ℕ) (h : m % 8 ≡ 0) where
   size_whole : digest_bytes m ≡ m / 8
   size_whole = omega arith
 
--- begin, and one_shot_lem of a message of whole bytes
+-- begin, and one-shot of a message of whole bytes
 module _ (m : ℕ) (salt : List ℕ) (h : m % 8 ≡ 0) where
   pub begin_whole : begin_of m salt ≡ record { answer = byte_begin_answer m salt; state = byte_begun m salt }
   unfolding begin_of begin_answer byte_begin_answer byte_begun

@@ -54,7 +54,7 @@ byte_blocks f m xs =
 unfoldable pub byte_digest : Family → ℕ → List ℕ → List ℕ → List ℕ
 byte_digest f m salt xs = take (m / 8) (bytes_of (chain_over f salt (byte_blocks f m xs) (start_of f m)))
 
--- "Order: begin 1, 2; add 4, 3; finish 4, 5; one_shot_lem 1, 2, 3, 5."
+-- "Order: begin 1, 2; add 4, 3; finish 4, 5; one-shot 1, 2, 3, 5."
 unfoldable pub byte_begin_answer : ℕ → List ℕ → Answer
 byte_begin_answer m salt = judged ((not (byte_allowed m), DigestLength) ∷ (not (salt_fits (family_of m) salt), SaltSize) ∷ [])
 
