@@ -30,10 +30,10 @@ use Rattle.bootlog.proofs.Recorded.{recorded}
 -- For each salt, each digest length from 1 to 512 bits and each message up to 2^64 - 1 bits, whose last bits fit, one-shot is accepted and the buffer's first
 -- bytes, m/8 rounded up, become the digest.
 module _ (m : ℕ) (salt : List ℕ) (x : Message) (out : List ℕ) (ok : allowed m ≡ true) (fits : salt_fits (family_of m) salt ≡ true)
-    (within : bit_length x ≤ bit_limit) (last_Fits : last_fits x.last ≡ true) (room : digest_bytes m ≤ length out) where
+    (within : bit_length x ≤ bit_limit) (bits_fit : last_fits x.last ≡ true) (room : digest_bytes m ≤ length out) where
   accepted : one_shot_answer m salt x out ≡ Accepted
   unfolding one_shot_answer
-  accepted = rw (ok, fits, le-ltb limit (length x.bytes) (within_bits (length x.bytes) x.last.count within), last_Fits, le-ltb (length out) (digest_bytes m) room)
+  accepted = rw (ok, fits, le-ltb limit (length x.bytes) (within_bits (length x.bytes) x.last.count within), bits_fit, le-ltb (length out) (digest_bytes m) room)
 
   pub digest_right : (report_number (one_shot_of m salt x out) ≡ 0) × (one_shot_buffer m salt x out ≡ digest_of (family_of m) m (fill 64 salt) x ++ drop (digest_bytes m) out)
   unfolding one_shot_of one_shot_buffer
