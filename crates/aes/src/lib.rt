@@ -32,15 +32,15 @@ fn in_columns(t: [u8; 16]) -> [[u8; 4]; 4]
     ]
 }
 
-// The S-box has one call site, in a loop, so that the compiler puts it there; the same holds for the columns' mixing below.
+// The S-box has one call site, in a loop, so that the compiler puts it there; the same holds for the columns' mixing below. By `map` over
+// columns, here, in the mixing and in `words`, it proves, and the byte form takes 518 instructions a byte of long input and not 242 (266 is
+// the bar).
 fn sub_each(bytes: [u8; 16]) -> [u8; 16]
     ensures { result ≡ map sbox_of bytes }
 {
     let mut t = bytes;
-    let mut i = 0;
-    while i < 16 {
+    for i in 0..16 {
         t[i] = sbox::sub(t[i]);
-        i += 1;
     }
     t
 }
@@ -91,11 +91,8 @@ fn mix_columns(s: [[u8; 4]; 4]) -> [[u8; 4]; 4]
     ensures { result ≡ mix_columns s }
 {
     let mut t = s;
-    let mut c = 0;
-    while c < 4 {
-        let next = mix_column(t[c]);
-        t[c] = next;
-        c += 1;
+    for c in 0..4 {
+        t[c] = mix_column(t[c]);
     }
     t
 }

@@ -1,9 +1,7 @@
--- The numbers given on refusal (documents 01 and 02), and the values of each answer.
-use Rattle.std.specs.Prelude.{Bool, true, false, List, [], ◌∷◌, ℕ}
+-- The numbers given on refusal (documents 01 and 02), and the number of each answer.
+use Rattle.std.specs.Prelude.{Bool, true, false, List, [], ◌∷◌, ℕ, Result, Ok, Err}
 use Rattle.answers.specs.declared.refusal.Refusal.{Refusal}
 use Rattle.answers.specs.declared.refusal.Refusal.TheVariants.{DigestLength, SaltSize, MessageLimit, StateInconsistent, BufferShort, LogExtent, SectionCount, EventRegister, FormExtent, FormCount, BitsUnfit, KeyLong}
-use Rattle.answers.specs.declared.refusal.Answer.{Answer}
-use Rattle.answers.specs.declared.refusal.Answer.TheVariants.{Accepted, Refused}
 
 -- document 01's table of refusals; then document 02's, One: a saved form cut or with bytes left over, a count that doesn't fit or a family over 1;
 -- Five: more than 7 last bits or unused bits not zero; Eight: a key of over 65,535 bytes
@@ -21,21 +19,28 @@ refusal_number FormCount = 10
 refusal_number BitsUnfit = 11
 refusal_number KeyLong = 12
 
--- 0 where the call is accepted
+-- what a call answers that has no value of its own: accepted, or a refusal
+abbrev pub Answer : Type 0
+Answer = Result (Unit {0}) Refusal
+
+-- 0 where the call is accepted, whatever its value
+abbrev pub number_of : {T : Type 0} → Result T Refusal → ℕ
+number_of (Ok x) = 0
+number_of (Err r) = refusal_number r
+
 abbrev pub answer_number : Answer → ℕ
-answer_number Accepted = 0
-answer_number (Refused r) = refusal_number r
+answer_number a = number_of a
 
 -- The tests of a call in their order, each with the refusal given where it holds: the first that holds decides. No refusal is given otherwise.
 abbrev pub judged : List (Bool × Refusal) → Answer
-judged [] = Accepted
-judged (t ∷ ts) = elim t.0 [ true ↦ Refused t.1 | false ↦ judged ts ]
+judged [] = Ok tt
+judged (t ∷ ts) = elim t.0 [ true ↦ Err t.1 | false ↦ judged ts ]
 
 abbrev pub if_accepted : {A : Type 0} → Answer → A → A → A
-if_accepted Accepted a b = a
-if_accepted (Refused r) a b = b
+if_accepted (Ok u) a b = a
+if_accepted (Err r) a b = b
 
 -- the first refusal of two answers
 abbrev pub first_of : Answer → Answer → Answer
-first_of Accepted next = next
-first_of (Refused r) next = Refused r
+first_of (Ok u) next = next
+first_of (Err r) next = Err r

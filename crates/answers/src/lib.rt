@@ -1,8 +1,10 @@
-// What the calls answer: refusals with their numbers, the answer of a call that hands back a state, and that of one that writes.
+// What the calls answer: a value or a refusal with its number, and the state handed back beside it.
 #![tactic(auto)]
 
+mod handed;
 mod refusal;
 mod written;
 
-pub use refusal::{Answer, Refusal, also};
-pub use written::Written;
+pub use handed::Handed;
+pub use refusal::{Refusal, also, number};
+pub use written::length;

@@ -1,8 +1,8 @@
-// Every refusal of the project, and the answer of a call that hands back a state.
+// Every refusal of the project, and the number of what a call answers.
 ghost use Rattle.std.specs.Prelude.{◌≡◌};
-ghost use Rattle.answers.specs.Refusal.{refusal_number, answer_number, first_of};
+ghost use Rattle.answers.specs.Refusal.{refusal_number, number_of, first_of};
 
-#[derive(Clone, Copy)]
+#[derive(Clone, Copy, Debug, PartialEq, Eq)]
 pub enum Refusal {
     DigestLength,
     SaltSize,
@@ -18,14 +18,8 @@ pub enum Refusal {
     KeyLong,
 }
 
-#[derive(Clone, Copy)]
-pub enum Answer {
-    Accepted,
-    Refused(Refusal),
-}
-
 impl Refusal {
-    // The number in document 01's table; 9 and on are document 02's.
+    // The number in document 01's table; 9 and on are document 02's. A match and no discriminants: wrong builds give two refusals one number, which those cannot have.
     pub fn number(self) -> u8
         ensures { result ≡ refusal_number self }
     {
@@ -46,24 +40,19 @@ impl Refusal {
     }
 }
 
-impl Answer {
-    // 0 where the call was accepted.
-    pub fn number(self) -> u8
-        ensures { result ≡ answer_number self }
-    {
-        match self {
-            Answer::Accepted => 0,
-            Answer::Refused(refusal) => refusal.number(),
-        }
+// 0 where the call was accepted, whatever it answers then.
+pub fn number<T: Drop>(answer: Result<T, Refusal>) -> u8
+    ensures { result ≡ number_of answer }
+{
+    match answer {
+        Ok(_) => 0,
+        Err(refusal) => refusal.number(),
     }
 }
 
 // The first refusal of two answers.
-pub fn also(first: Answer, next: Answer) -> Answer
+pub fn also(first: Result<(), Refusal>, next: Result<(), Refusal>) -> Result<(), Refusal>
     ensures { result ≡ first_of first next }
 {
-    match first {
-        Answer::Accepted => next,
-        Answer::Refused(refusal) => Answer::Refused(refusal),
-    }
+    first.and(next)
 }

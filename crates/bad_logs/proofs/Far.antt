@@ -12,13 +12,14 @@ use borrow.Author.Tests.{leb-true}
 use Rattle.answers.proofs.Tests.{and_right}
 use Rattle.answers.specs.declared.refusal.Refusal.{Refusal}
 use Rattle.log_answers.specs.declared.reading.Layout.{Layout}
-use Rattle.log_answers.specs.declared.reading.Reading.{Reading}
-use Rattle.log_answers.specs.declared.reading.Reading.TheVariants.{Whole, Refused}
 use Rattle.fields.specs.Fields.{number_at}
 use Rattle.layout.specs.Layout.{reading_of}
 use Rattle.layout.proofs.Sections.{which, one_most}
 use Rattle.bad_logs.specs.Steps.{Next, salt, salt_bytes, registers, register_bytes, events, event, claims, claim_bytes, end, size, good, left, after, Reached, start, onward, Bad, cut, wrong, extra}
 use Rattle.bad_logs.proofs.Reach.{number_same, steady, reached_same, bad_refused, refused_bad, whole_reached}
+use Rattle.std.specs.Prelude.{Result, Ok, Err}
+use Rattle.log_answers.specs.declared.reading.Fault.{Fault}
+use Rattle.log_answers.specs.Reading.{fault}
 
 -- how many bytes there can be from each part on
 abbrev most_claims : ℕ → ℕ
@@ -76,11 +77,11 @@ pub reached_part : (log : List ℕ) {i : ℕ} {s : Next} → Reached log i s →
 reached_part log {i} {s} p = omega (arith, reached_most log p, most_size s)
 
 -- An accepted log has at most 38,440 bytes; a log of that size is run (samples/longest.log).
-pub accepted_size : (log : List ℕ) (at : Layout) → reading_of log ≡ Whole at → length log ≤ 38440
+pub accepted_size : (log : List ℕ) (at : Layout) → reading_of log ≡ Ok at → length log ≤ 38440
 accepted_size log at e = omega (arith, reached_part log (whole_reached log at e))
 
 -- No refusal has its place past byte 38,440.
-pub refused_place : (log : List ℕ) (r : Refusal) (o : ℕ) → reading_of log ≡ Refused r o → o ≤ 38440
+pub refused_place : (log : List ℕ) (r : Refusal) (o : ℕ) → reading_of log ≡ Err (fault r o) → o ≤ 38440
 refused_place log r o e = by (refused_bad log r o e)
   where
     by : {r : Refusal} {o : ℕ} → Bad log r o → o ≤ 38440
@@ -89,7 +90,7 @@ refused_place log r o e = by (refused_bad log r o e)
     by (extra p h) = omega (arith, reached_part log p)
 
 module _ (log : List ℕ) (n : ℕ) (enough : 38441 ≤ n) where
-  bad_same : {r : Refusal} {o : ℕ} → n < length log → Bad log r o → reading_of (take n log) ≡ Refused r o
+  bad_same : {r : Refusal} {o : ℕ} → n < length log → Bad log r o → reading_of (take n log) ≡ Err (fault r o)
   bad_same long (cut p h) = absurd (omega (arith, reached_part log p))
   bad_same long (wrong {i} {s} p h g) =
       let l = length-take-le n log (omega arith) in
@@ -109,6 +110,6 @@ module _ (log : List ℕ) (n : ℕ) (enough : 38441 ≤ n) where
     | yes h ↦ by h (reading_of log) refl
   ]
     where
-      by : n < length log → (x : Reading) → reading_of log ≡ x → reading_of (take n log) ≡ reading_of log
-      by long (Whole at) e = absurd (omega (arith, accepted_size log at e))
-      by long (Refused r o) e = bad_same long (refused_bad log r o e) ∙ sym e
+      by : n < length log → (x : Result Layout Fault) → reading_of log ≡ x → reading_of (take n log) ≡ reading_of log
+      by long (Ok at) e = absurd (omega (arith, accepted_size log at e))
+      by long (Err f) e = bad_same long (refused_bad log f.refusal f.offset e) ∙ sym e

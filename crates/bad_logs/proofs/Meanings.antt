@@ -13,13 +13,14 @@ use borrow.Author.Tests.{leb-true, not-false}
 use Rattle.answers.specs.declared.refusal.Refusal.{Refusal}
 use Rattle.answers.specs.declared.refusal.Refusal.TheVariants.{LogExtent, SectionCount, EventRegister}
 use Rattle.log_answers.specs.declared.reading.Layout.{Layout}
-use Rattle.log_answers.specs.declared.reading.Reading.TheVariants.{Whole, Refused}
 use Rattle.fields.specs.Fields.{number_at}
 use Rattle.layout.specs.Layout.{reading_of}
 use Rattle.bad_logs.specs.Steps.{Next, salt, salt_bytes, registers, register_bytes, events, event, claims, claim_bytes, end, size, good, refusal, Reached, start, onward, Bad, cut, wrong, extra}
 use Rattle.bad_logs.specs.Meaning.{Begins, Count, of_salt, of_registers, of_events, of_claims, BadCount, BadRegister, Cut, Leftover}
 use Rattle.bad_logs.proofs.Reach.{reached_bound, number_same, front_same, front_there, reached_same, bad_refused, refused_bad, end_read, whole_reached}
 use Rattle.bad_logs.proofs.Begun.{begins}
+use Rattle.std.specs.Prelude.{Ok, Err}
+use Rattle.log_answers.specs.Reading.{fault}
 
 true_false : ◌≡◌ {A = Bool} true false → ⊥
 true_false e =
@@ -43,7 +44,7 @@ refusing (claim_bytes k) n g = absurd (true_false g)
 refusing end n g = absurd (true_false g)
 
 -- no reading is both
-apart : {at : Layout} {r : Refusal} {o : ℕ} → Whole at ≡ Refused r o → ◌≡◌ {A = ℕ} 0 1
+apart : {at : Layout} {r : Refusal} {o : ℕ} → Ok at ≡ Err (fault r o) → ◌≡◌ {A = ℕ} 0 1
 apart e = cc
 
 -- what is refused is a count or a register
@@ -58,12 +59,12 @@ no_extent (inr a) e = let z : ◌≡◌ {A = ℕ} 0 1 = cc in absurd (omega arit
 module _ (log : List ℕ) where
   -- the same part at the same place of another log is refused as here
   wrong_same : (o : ℕ) (s : Next) → Reached log o s → o + 2 ≤ length log → good s (number_at log o) ≡ false
-      → (log' : List ℕ) → take (o + 2) log' ≡ take (o + 2) log → o + size s ≤ length log' → reading_of log' ≡ Refused (refusal s) o
+      → (log' : List ℕ) → take (o + 2) log' ≡ take (o + 2) log → o + size s ≤ length log' → reading_of log' ≡ Err (fault (refusal s) o)
   wrong_same o s p h g log' e there =
       bad_refused log'
       (wrong (reached_same log log' p (front_same log log' (o + 2) o (omega arith) e)) there (rw (number_same log log' (o + 2) o (omega arith) h e) g))
 
-  pub count_bad : (o : ℕ) → reading_of log ≡ Refused SectionCount o → BadCount log o
+  pub count_bad : (o : ℕ) → reading_of log ≡ Err (fault SectionCount o) → BadCount log o
   count_bad o e = by SectionCount o (refused_bad log SectionCount o e) refl
     where
       counted : (i : ℕ) (s : Next) (r : Refusal) → Refusing s r → r ≡ SectionCount → refusal s ≡ r → Reached log i s → i + size s ≤ length log
@@ -86,7 +87,7 @@ module _ (log : List ℕ) where
       by r o (wrong {i} {s} p h g) e = counted i s (refusal s) (refusing s (number_at log i) g) e refl p h g
       by r o (extra p h) e = let z : ◌≡◌ {A = ℕ} 0 1 = cc in absurd (omega arith)
 
-  pub register_bad : (o : ℕ) → reading_of log ≡ Refused EventRegister o → BadRegister log o
+  pub register_bad : (o : ℕ) → reading_of log ≡ Err (fault EventRegister o) → BadRegister log o
   register_bad o e = by EventRegister o (refused_bad log EventRegister o e) refl
     where
       foreign : (i : ℕ) (s : Next) (r : Refusal) → Refusing s r → r ≡ EventRegister → Reached log i s → i + size s ≤ length log
@@ -126,8 +127,8 @@ module _ (log : List ℕ) where
   -- refused where it begins
   module _ (i : ℕ) (s : Next) (p : Reached log i s) (short : length log < i + size s) where
     abbrev GoesOn : List ℕ → Type 0
-    GoesOn more = ((at : Layout) × (reading_of (log ++ more) ≡ Whole at))
-        ⊎ ((r : Refusal) × (i < length log) × ((r ≡ SectionCount) ⊎ (r ≡ EventRegister)) × (reading_of (log ++ more) ≡ Refused r i))
+    GoesOn more = ((at : Layout) × (reading_of (log ++ more) ≡ Ok at))
+        ⊎ ((r : Refusal) × (i < length log) × ((r ≡ SectionCount) ⊎ (r ≡ EventRegister)) × (reading_of (log ++ more) ≡ Err (fault r i)))
 
     cut_so : (more : List ℕ) → 0 < length more → GoesOn more → Cut log
     cut_so more h g = record { from = i; part = s; reached = p; inside = short; before = begins log p; more = more; longer = h; on = g }
@@ -141,9 +142,9 @@ module _ (log : List ℕ) where
         all : take i log ≡ log
         all = take_all i log (omega arith)
 
-        by : (more : List ℕ) → reading_of (take i log ++ more) ≡ Whole b.layout → Cut log
+        by : (more : List ℕ) → reading_of (take i log ++ more) ≡ Ok b.layout → Cut log
         by [] w =
-            let whole : reading_of log ≡ Whole b.layout = rw (append-nil, all) at w in
+            let whole : reading_of log ≡ Ok b.layout = rw (append-nil, all) at w in
             let z : ◌≡◌ {A = ℕ} 0 1 = apart (sym whole ∙ bad_refused log (cut p short)) in
             absurd (omega arith)
         by (x ∷ more) w = cut_so (x ∷ more) (omega arith) (inl (b.layout, rw all at w))
@@ -170,7 +171,7 @@ module _ (log : List ℕ) where
         by true g =
             let b = begins (log ++ fill) (onward still (omega (arith, filled)) g) in
             let all = take_all (i + size s) (log ++ fill) (omega (arith, filled)) in
-            let accepted : reading_of (log ++ (fill ++ b.more)) ≡ Whole b.layout = rw (all, append_assoc log fill b.more) at b.accepted in
+            let accepted : reading_of (log ++ (fill ++ b.more)) ≡ Ok b.layout = rw (all, append_assoc log fill b.more) at b.accepted in
             cut_so (fill ++ b.more) (omega (arith, length-append fill b.more, fill_length)) (inl (b.layout, accepted))
 
     cut_part : Cut log
@@ -179,7 +180,7 @@ module _ (log : List ℕ) where
       | no h ↦ cut_between (omega (arith, reached_bound log p))
     ]
 
-  pub extent_bad : (o : ℕ) → reading_of log ≡ Refused LogExtent o → ((o ≡ length log) × Cut log) ⊎ Leftover log o
+  pub extent_bad : (o : ℕ) → reading_of log ≡ Err (fault LogExtent o) → ((o ≡ length log) × Cut log) ⊎ Leftover log o
   extent_bad o e = by LogExtent o (refused_bad log LogExtent o e) refl
     where
       by : (r : Refusal) (o : ℕ) → Bad log r o → r ≡ LogExtent → ((o ≡ length log) × Cut log) ⊎ Leftover log o
@@ -188,9 +189,9 @@ module _ (log : List ℕ) where
       by r o (extra {i} p h) e = inr (leftover i p h)
 
 -- ---- accepted logs
-module _ (log : List ℕ) (at : Layout) (e : reading_of log ≡ Whole at) where
+module _ (log : List ℕ) (at : Layout) (e : reading_of log ≡ Ok at) where
   -- An accepted log that is cut anywhere is refused with 6 at its size.
-  pub accepted_cut : (n : ℕ) → n < length log → reading_of (take n log) ≡ Refused LogExtent n
+  pub accepted_cut : (n : ℕ) → n < length log → reading_of (take n log) ≡ Err (fault LogExtent n)
   accepted_cut n h =
       let l = length-take-le n log (omega arith) in
       let w = within (whole_reached log at e) h in
@@ -206,7 +207,7 @@ module _ (log : List ℕ) (at : Layout) (e : reading_of log ≡ Whole at) where
       ]
 
   -- One with bytes behind it is refused with 6 where they begin.
-  pub accepted_more : (more : List ℕ) → 0 < length more → reading_of (log ++ more) ≡ Refused LogExtent (length log)
+  pub accepted_more : (more : List ℕ) → 0 < length more → reading_of (log ++ more) ≡ Err (fault LogExtent (length log))
   accepted_more more h =
       let q = reached_same log (log ++ more) (whole_reached log at e) (take-append-le (length log) log more (omega arith)) in
       bad_refused (log ++ more) (extra q (omega (arith, length-append log more)))

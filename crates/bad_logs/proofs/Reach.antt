@@ -11,13 +11,14 @@ use borrow.Author.Tests.{lt-ltb, le-ltb, eq-eqb, ne_eqb, eqb-true, eqb-false, lt
 use Rattle.answers.specs.declared.refusal.Refusal.{Refusal}
 use Rattle.answers.specs.declared.refusal.Refusal.TheVariants.{LogExtent}
 use Rattle.log_answers.specs.declared.reading.Layout.{Layout}
-use Rattle.log_answers.specs.declared.reading.Reading.{Reading}
-use Rattle.log_answers.specs.declared.reading.Reading.TheVariants as reading
 use Rattle.fields.specs.Fields.{number_at}
 use Rattle.fields.proofs.Numbers.{number_inside}
 use Rattle.layout.specs.Layout.{reading_of}
 use Rattle.bad_logs.specs.Steps.{Next, salt, salt_bytes, registers, register_bytes, events, event, claims, claim_bytes, end, size, good, refusal, left, after, Reached, start, onward, Bad, cut, wrong, extra}
 use Rattle.bad_logs.proofs.Walk.{Fate, read, bad, fate, from, reading_from, step}
+use Rattle.std.specs.Prelude.{Result, Ok, Err}
+use Rattle.log_answers.specs.declared.reading.Fault.{Fault}
+use Rattle.log_answers.specs.Reading.{fault}
 
 module _ (log : List ℕ) where
   pub reached_bound : {i : ℕ} {s : Next} → Reached log i s → i ≤ length log
@@ -31,27 +32,27 @@ module _ (log : List ℕ) where
       reached_from r ∙ step log s i (reached_bound r) ∙ rw (le-ltb (length log) (i + size s) h, g)
 
   -- and so each of these is refused so
-  pub fate_bad : (r : Refusal) (o : ℕ) → fate (reading_of log) ≡ bad r o → reading_of log ≡ reading.Refused r o
+  pub fate_bad : (r : Refusal) (o : ℕ) → fate (reading_of log) ≡ bad r o → reading_of log ≡ Err (fault r o)
   fate_bad r o = by (reading_of log)
     where
-      by : (x : Reading) → fate x ≡ bad r o → x ≡ reading.Refused r o
-      by (reading.Whole at) e = let z : ◌≡◌ {A = ℕ} 0 1 = cc in absurd (omega arith)
-      by (reading.Refused r' o') e =
-          let a : r' ≡ r = cc in
-          let b : o' ≡ o = cc in
-          rw (a, b)
+      by : (x : Result Layout Fault) → fate x ≡ bad r o → x ≡ Err (fault r o)
+      by (Ok at) e = let z : ◌≡◌ {A = ℕ} 0 1 = cc in absurd (omega arith)
+      by (Err f) e =
+          let a : f.refusal ≡ r = cc in
+          let b : f.offset ≡ o = cc in
+          rw (← a, ← b)
 
-  pub bad_refused : {r : Refusal} {o : ℕ} → Bad log r o → reading_of log ≡ reading.Refused r o
+  pub bad_refused : {r : Refusal} {o : ℕ} → Bad log r o → reading_of log ≡ Err (fault r o)
   bad_refused (cut {i} {s} p h) = fate_bad LogExtent (length log) (reached_from p ∙ step log s i (reached_bound p) ∙ rw (lt-ltb (length log) (i + size s) h))
   bad_refused (wrong {i} {s} p h g) = fate_bad (refusal s) i (reached_from p ∙ step log s i (reached_bound p) ∙ rw (le-ltb (length log) (i + size s) h, g))
   bad_refused (extra {i} p h) = fate_bad LogExtent i (reached_from p ∙ rw (ne_eqb (length log) i (λ e. omega arith)))
 
-  pub end_read : Reached log (length log) end → (at : Layout) × (reading_of log ≡ reading.Whole at)
+  pub end_read : Reached log (length log) end → (at : Layout) × (reading_of log ≡ Ok at)
   end_read p = by (reading_of log) (reached_from p ∙ rw (eq-eqb (length log) (length log) refl))
     where
-      by : (x : Reading) → fate x ≡ read → (at : Layout) × (x ≡ reading.Whole at)
-      by (reading.Whole at) e = (at, refl)
-      by (reading.Refused r o) e = let z : ◌≡◌ {A = ℕ} 0 1 = cc in absurd (omega arith)
+      by : (x : Result Layout Fault) → fate x ≡ read → (at : Layout) × (x ≡ Ok at)
+      by (Ok at) e = (at, refl)
+      by (Err f) e = let z : ◌≡◌ {A = ℕ} 0 1 = cc in absurd (omega arith)
 
 -- Where reading comes to depends only on the bytes before.
 number_front : (l : List ℕ) (n i : ℕ) → i + 2 ≤ length (take n l) → number_at l i ≡ number_at (take n l) i
@@ -131,7 +132,7 @@ module _ (log : List ℕ) where
   pub fate_told : Told (fate (reading_of log))
   fate_told = rw (reading_from log) (told_step salt 0 start (λ q. told_step (salt_bytes _) _ q (told_registers _)))
 
-  pub refused_bad : (r : Refusal) (o : ℕ) → reading_of log ≡ reading.Refused r o → Bad log r o
+  pub refused_bad : (r : Refusal) (o : ℕ) → reading_of log ≡ Err (fault r o) → Bad log r o
   refused_bad r o e = by (fate (reading_of log)) fate_told (ap fate e)
     where
       by : (f : Fate) → Told f → f ≡ bad r o → Bad log r o
@@ -141,7 +142,7 @@ module _ (log : List ℕ) where
           let y : o' ≡ o = cc in
           rw (x, y) at b
 
-  pub whole_reached : (at : Layout) → reading_of log ≡ reading.Whole at → Reached log (length log) end
+  pub whole_reached : (at : Layout) → reading_of log ≡ Ok at → Reached log (length log) end
   whole_reached at e = by (fate (reading_of log)) fate_told (ap fate e)
     where
       by : (f : Fate) → Told f → f ≡ read → Reached log (length log) end

@@ -10,32 +10,31 @@ use lib.ListN.{length}
 use borrow.Author.Tests.{lt-ltb, le-ltb, lt-leb, le-leb}
 use Rattle.answers.specs.declared.refusal.Refusal.{Refusal}
 use Rattle.answers.specs.declared.refusal.Refusal.TheVariants.{LogExtent, SectionCount}
-use Rattle.log_answers.specs.declared.reading.Reading.{Reading}
-use Rattle.log_answers.specs.declared.reading.Reading.TheVariants as reading
 use Rattle.fields.specs.Fields.{number_at}
-use Rattle.layout.specs.declared.End.{End}
-use Rattle.layout.specs.declared.End.TheVariants.{At, Refused}
 use Rattle.layout.specs.Layout.{end_after, reads, section_end, events_end, salt_count, salt_end, register_count, registers_end, event_section_end, claim_count, claims_end, reading_of}
 use Rattle.layout.proofs.Readings as readings
 use Rattle.layout.proofs.Sections.{event_short, event_foreign, event_next, event_none, event_section_short, event_section_barred, event_section_events}
 use Rattle.bad_logs.specs.Steps.{Next, salt, salt_bytes, registers, register_bytes, events, event, claims, claim_bytes, end, size, good, refusal, left, after}
+use Rattle.std.specs.Prelude.{Result, Ok, Err}
+use Rattle.log_answers.specs.declared.reading.Layout.{Layout}
+use Rattle.log_answers.specs.declared.reading.Fault.{Fault}
 
 -- What comes of a log: it is read, or refused at a place.
 pub data Fate : Type 0 where
   read : Fate
   bad : Refusal → ℕ → Fate
 
-abbrev pub fate : Reading → Fate
-fate (reading.Whole at) = read
-fate (reading.Refused r o) = bad r o
+abbrev pub fate : Result Layout Fault → Fate
+fate (Ok at) = read
+fate (Err f) = bad f.refusal f.offset
 
-abbrev goes_on : End → (ℕ → Fate) → Fate
-goes_on (At i) f = f i
-goes_on (Refused r o) f = bad r o
+abbrev goes_on : Result ℕ Fault → (ℕ → Fate) → Fate
+goes_on (Ok i) g = g i
+goes_on (Err f) g = bad f.refusal f.offset
 
-fate_reads : (p : End) (f : ℕ → Reading) (g : ℕ → Fate) → ((i : ℕ) → fate (f i) ≡ g i) → fate (reads p f) ≡ goes_on p g
-fate_reads (At i) f g h = h i
-fate_reads (Refused r o) f g h = refl
+fate_reads : (p : Result ℕ Fault) (f : ℕ → Result Layout Fault) (g : ℕ → Fate) → ((i : ℕ) → fate (f i) ≡ g i) → fate (reads p f) ≡ goes_on p g
+fate_reads (Ok i) f g h = h i
+fate_reads (Err x) f g h = refl
 
 fate_end : (log : List ℕ) (second third fourth last : ℕ) (t : Bool) → fate (readings.at_end log second third fourth last t) ≡ cond t read (bad LogExtent last)
 fate_end log second third fourth last true = refl
@@ -74,10 +73,10 @@ module _ (log : List ℕ) where
   pub reading_from : fate (reading_of log) ≡ from salt 0
   unfolding reading_of salt_end
   reading_from =
-      fate_reads (salt_end log) (readings.from_registers log) from_registers (λ second.
-      fate_reads (registers_end log second) (readings.from_events log second) (from_events (number_at log second)) (λ third.
-      fate_reads (event_section_end log (number_at log second) third) (readings.from_claims log second third) (from_claims (number_at log second)) (λ fourth.
-      fate_reads (claims_end log (number_at log second) fourth) (readings.from_end log second third fourth) from_end (λ last.
+      fate_reads (salt_end log) _ from_registers (λ second.
+      fate_reads (registers_end log second) _ (from_events (number_at log second)) (λ third.
+      fate_reads (event_section_end log (number_at log second) third) _ (from_claims (number_at log second)) (λ fourth.
+      fate_reads (claims_end log (number_at log second) fourth) _ from_end (λ last.
       fate_end log second third fourth last (eqb (length log) last)))))
 
   -- a section is its count, and then its contents

@@ -1,3 +1,2 @@
-pub mod Weights
 pub mod Fitting
 pub mod Firsts

@@ -16,7 +16,7 @@ fn check_file(rt: &HostRuntime, name: &[u8]) -> io::Result<()> {
 }
 
 fn check_argument(rt: &HostRuntime, i: usize) -> io::Result<()> {
-    let mut name = [0u8; 4096];
+    let mut name = [0u8; command_line::WORD];
     match rt.arg(i, &mut name) {
         Ok(size) => check_file(rt, &name[..size]),
         Err(error) => {

@@ -12,11 +12,11 @@ use Rattle.family.specs.declared.Family.{Family}
 use Rattle.family.specs.declared.Family.TheVariants.{Small, Large}
 use Rattle.family.specs.Family.{family_number, block_bytes, chain_words, salt_bytes}
 use Rattle.answers.specs.declared.refusal.Refusal.TheVariants.{StateInconsistent, BufferShort}
-use Rattle.answers.specs.declared.refusal.Answer.TheVariants.{Accepted}
+use Rattle.std.specs.Prelude.{Ok}
 use Rattle.fields.specs.Fields.{le, number_at, bytes_of}
 use Rattle.state.specs.declared.State.{State}
 use Rattle.state.specs.State.{consistent_of}
-use Rattle.digest.specs.declared.calls.Step.{Step}
+use Rattle.digest.specs.Calls.{Step}
 use Rattle.saved_form.specs.Form.{salt_words, parameter_section, salt_section, chain_section, covered_section, held_section, form_of, salt_place, chain_place, covered_place, held_place, held_start}
 use Rattle.loading.specs.Reading.{family_in, covered_in, rest_in, words_in, state_in}
 use Rattle.saving.specs.Calls.{save_answer, save_of, save_buffer}
@@ -163,19 +163,19 @@ module _ (s : State) (stored : Stored s) (ok : Sound s) where
       })
 
 -- Reading what was written gives the same state.
-pub load_form : (s : State) → Stored s → consistent_of s ≡ true → load_of (form_of s) ≡ record { answer = Accepted; state = s }
+pub load_form : (s : State) → Stored s → consistent_of s ≡ true → load_of (form_of s) ≡ record { answer = Ok tt; state = s }
 unfolding load_of load_answer
 load_form s stored h =
     let ok = sound s h in
     let same = sym (same_state s stored ok) in
     rw (form_passes (form_of s) ((not (consistent_of (state_in (form_of s))), StateInconsistent) ∷ []) (whole s stored ok), same, h)
 
-save_consistent : (s : State) (out : List ℕ) → save_answer s out ≡ Accepted → consistent_of s ≡ true
+save_consistent : (s : State) (out : List ℕ) → save_answer s out ≡ Ok tt → consistent_of s ≡ true
 unfolding save_answer
 save_consistent s out h = (passed (consistent_of s) (ltb (length out) (length (form_of s))) StateInconsistent BufferShort h).0
 
 -- A form that a save left at the buffer's front is read as the saved state.
-pub save_load : (s : State) (out : List ℕ) → Stored s → save_answer s out ≡ Accepted → load_of (form_left s out) ≡ record { answer = Accepted; state = s }
+pub save_load : (s : State) (out : List ℕ) → Stored s → save_answer s out ≡ Ok tt → load_of (form_left s out) ≡ record { answer = Ok tt; state = s }
 unfolding form_left save_of save_buffer
 save_load s out stored h =
     rw (h, take_at (form_of s) (drop (length (form_of s)) out) (length (form_of s)) refl) (load_form s stored (save_consistent s out h))

@@ -8,8 +8,8 @@ use lib.ListN.{length}
 use Rattle.family.specs.declared.Family.{Family}
 use Rattle.family.specs.Family.{family_of, block_bytes}
 use Rattle.counter.specs.Counter.{counter_of}
-use Rattle.answers.specs.declared.refusal.Answer.{Answer}
-use Rattle.answers.specs.declared.refusal.Answer.TheVariants.{Accepted, Refused}
+use Rattle.answers.specs.Refusal.{Answer}
+use Rattle.std.specs.Prelude.{Ok, Err}
 use Rattle.answers.specs.Refusal.{if_accepted}
 use Rattle.bits.specs.declared.LastBits.{LastBits}
 use Rattle.bits.specs.Message.{message_of}
@@ -64,8 +64,8 @@ unfolding after_move save_of
 carry_keeps s stored out = by (save_answer s out) refl
   where
     by : (a : Answer) → save_answer s out ≡ a → if_accepted a (load_of (form_left s out)).state s ≡ s
-    by Accepted e = rw (save_load s out stored e)
-    by (Refused r) e = refl
+    by (Ok u) e = rw (save_load s out stored e)
+    by (Err r) e = refl
 
 -- the calls among moves
 calls : List Move → List Call
@@ -87,7 +87,7 @@ module _ (m : ℕ) (salt : List ℕ) (fits : salt_fits (family_of m) salt ≡ tr
   moves_calls xs (save out ∷ moves) = moves_calls xs moves
   moves_calls xs (carry out ∷ moves) = rw (carry_keeps (state_of m salt xs) (state_stored m salt xs fits) out) (moves_calls xs moves)
 
-module _ (m : ℕ) (salt : List ℕ) (h : begin_answer m salt ≡ Accepted) (moves : List Move) where
+module _ (m : ℕ) (salt : List ℕ) (h : begin_answer m salt ≡ Ok tt) (moves : List Move) where
   by_calls : (after_moves (begin_of m salt).state moves ≡ after (begin_of m salt).state (calls moves))
       × (joined_by (begin_of m salt).state moves ≡ joined (begin_of m salt).state (calls moves))
   by_calls = rw (begin_state m salt h) (moves_calls m salt (begin_accepted m salt h).1 [] moves)
@@ -101,6 +101,6 @@ module _ (m : ℕ) (salt : List ℕ) (h : begin_answer m salt ≡ Accepted) (mov
 
   -- Finishing it with any last bits reports and writes what one-shot does for those bytes and bits.
   pub moves_finish : (last : LastBits) (out : List ℕ)
-      → ((finish_of (after_moves (begin_of m salt).state moves) last out).report ≡ one_shot_of m salt (message_of (joined_by (begin_of m salt).state moves) last) out)
+      → ((finish_of (after_moves (begin_of m salt).state moves) last out).answer ≡ one_shot_of m salt (message_of (joined_by (begin_of m salt).state moves) last) out)
       × (finish_buffer (after_moves (begin_of m salt).state moves) last out ≡ one_shot_buffer m salt (message_of (joined_by (begin_of m salt).state moves) last) out)
   moves_finish last out = rw (by_calls.0, by_calls.1) (calls_finish m salt (calls moves) h last out)

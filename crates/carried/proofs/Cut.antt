@@ -10,7 +10,7 @@ use lib.Seq.{get_or-take, length-take-le}
 use borrow.Author.Tests.{ltb-false, lt-ltb, le-ltb, eq-eqb}
 use Rattle.answers.specs.declared.refusal.Refusal.{Refusal}
 use Rattle.answers.specs.declared.refusal.Refusal.TheVariants.{StateInconsistent, FormExtent, FormCount}
-use Rattle.answers.specs.declared.refusal.Answer.TheVariants.{Accepted, Refused}
+use Rattle.std.specs.Prelude.{Ok, Err}
 use Rattle.answers.specs.Refusal.{judged}
 use Rattle.fields.specs.Fields.{number_in, number_at}
 use Rattle.family.specs.Family.{chain_words, salt_bytes}
@@ -24,7 +24,7 @@ use Rattle.carried.proofs.Exact.{accepted}
 
 -- a section that is cut: either its count is, or its count fits and its contents are
 extent_refused : (t u : Bool) (ts : List (Bool × Refusal)) → (t ≡ false → u ≡ false)
-    → judged ((t, FormExtent) ∷ (u, FormCount) ∷ (true, FormExtent) ∷ ts) ≡ Refused FormExtent
+    → judged ((t, FormExtent) ∷ (u, FormCount) ∷ (true, FormExtent) ∷ ts) ≡ Err FormExtent
 extent_refused true u ts h = refl
 extent_refused false u ts h = rw (h refl)
 
@@ -36,15 +36,15 @@ module _ (x y : List ℕ) (same : (i : ℕ) → i < length x → i < length y �
   number_same (suc k) i hx hy = rw (same i (omega arith) (omega arith), number_same k (i + 1) (omega arith) (omega arith))
 
   -- where x has a section, y has it or is refused there
-  section_extent : (i count size : ℕ) (ts : List (Bool × Refusal)) → Section x i count size → (Section y i count size → judged ts ≡ Refused FormExtent)
-      → judged (section_tests y i count size ++ ts) ≡ Refused FormExtent
+  section_extent : (i count size : ℕ) (ts : List (Bool × Refusal)) → Section x i count size → (Section y i count size → judged ts ≡ Err FormExtent)
+      → judged (section_tests y i count size ++ ts) ≡ Err FormExtent
   unfolding section_tests
   section_extent i count size ts s next = by (ltb (length y) (i + 2 + size)) refl
     where
       counted : i + 2 ≤ length y → number_at y i ≡ count
       counted h = number_same 2 i (omega (arith, s.fits)) h ∙ s.counted
 
-      by : (t : Bool) → ltb (length y) (i + 2 + size) ≡ t → judged (section_tests y i count size ++ ts) ≡ Refused FormExtent
+      by : (t : Bool) → ltb (length y) (i + 2 + size) ≡ t → judged (section_tests y i count size ++ ts) ≡ Err FormExtent
       by true e =
           rw e (extent_refused (ltb (length y) (i + 2)) (not (eqb (number_at y i) count)) ts (λ h.
           rw (eq-eqb (number_at y i) count (counted (ltb-false (length y) (i + 2) h)))))
@@ -62,7 +62,7 @@ module _ (x y : List ℕ) (same : (i : ℕ) → i < length x → i < length y �
   rest_same e hx hy = rw (e, number_same 8 (covered_place (family_in y) + 2) hx hy)
 
   -- where x is a whole form, y is refused unless it is as long
-  length_told : (ts : List (Bool × Refusal)) → Whole x (family_in x) (rest_in x) → (length y ≡ length x → ⊥) → judged (form_tests y ++ ts) ≡ Refused FormExtent
+  length_told : (ts : List (Bool × Refusal)) → Whole x (family_in x) (rest_in x) → (length y ≡ length x → ⊥) → judged (form_tests y ++ ts) ≡ Err FormExtent
   length_told ts w other =
       let f = family_in y in
       let rest = rest_in y in
@@ -78,22 +78,22 @@ module _ (x y : List ℕ) (same : (i : ℕ) → i < length x → i < length y �
       section_extent (held_place f) rest rest _ u.held (λ g.
       rw (lt-ltb (held_start f + rest) (length y) (omega (arith, u.held.fits, u.end, g.fits, other))))))))))
 
-  load_told : load_answer x ≡ Accepted → (length y ≡ length x → ⊥) → load_answer y ≡ Refused FormExtent
+  load_told : load_answer x ≡ Ok tt → (length y ≡ length x → ⊥) → load_answer y ≡ Err FormExtent
   load_told h = unfold load_answer in length_told ((not (consistent_of (state_in y)), StateInconsistent) ∷ []) (accepted x h).0
 
 -- A form that is cut anywhere is refused with 9.
-pub cut_refused : (form : List ℕ) (n : ℕ) → load_answer form ≡ Accepted → n < length form → load_answer (take n form) ≡ Refused FormExtent
+pub cut_refused : (form : List ℕ) (n : ℕ) → load_answer form ≡ Ok tt → n < length form → load_answer (take n form) ≡ Err FormExtent
 cut_refused form n h k =
     let e : length (take n form) ≡ n = length-take-le n form (omega arith) in
     load_told form (take n form) (λ i _ g. get_or-take n form i 0 (omega (arith, e))) h (λ z. omega (arith, e))
 
 -- A form with bytes left over is refused with 9.
-pub more_refused : (form more : List ℕ) → load_answer form ≡ Accepted → 0 < length more → load_answer (form ++ more) ≡ Refused FormExtent
+pub more_refused : (form more : List ℕ) → load_answer form ≡ Ok tt → 0 < length more → load_answer (form ++ more) ≡ Err FormExtent
 more_refused form more h k =
     load_told form (form ++ more) (λ i g _. get_or-append form more 0 i g) h (λ z. omega (arith, length-append form more))
 
 -- No accepted form is the opening of another.
-pub no_form_opens : (x more : List ℕ) → load_answer x ≡ Accepted → load_answer (x ++ more) ≡ Accepted → more ≡ []
+pub no_form_opens : (x more : List ℕ) → load_answer x ≡ Ok tt → load_answer (x ++ more) ≡ Ok tt → more ≡ []
 no_form_opens x [] h g = refl
 no_form_opens x (b ∷ more) h g =
     let e = more_refused x (b ∷ more) h (omega arith) in

@@ -13,7 +13,7 @@ use Rattle.family.specs.declared.Family.TheVariants.{Small, Large}
 use Rattle.family.specs.Family.{family_number, block_bytes, chain_words, salt_bytes}
 use Rattle.answers.specs.declared.refusal.Refusal.{Refusal}
 use Rattle.answers.specs.declared.refusal.Refusal.TheVariants.{StateInconsistent}
-use Rattle.answers.specs.declared.refusal.Answer.TheVariants.{Accepted, Refused}
+use Rattle.std.specs.Prelude.{Ok, Err}
 use Rattle.fields.specs.Fields.{le, number_at}
 use Rattle.state.specs.State.{consistent_of, zero_state}
 use Rattle.state.specs.Bytes.{fill}
@@ -84,7 +84,7 @@ module _ (form : List ℕ) (b : bytes form) where
     state_form = rw (held_join, covered_join, chain_join, salt_join) parameters_join
 
 -- ---- what an acceptance tells
-module _ (form : List ℕ) (h : load_answer form ≡ Accepted) where
+module _ (form : List ℕ) (h : load_answer form ≡ Ok tt) where
   loaded : (load_of form).state ≡ state_in form
   unfolding load_of
   loaded = rw h
@@ -97,19 +97,19 @@ module _ (form : List ℕ) (h : load_answer form ≡ Accepted) where
       (p.0, not-false (consistent_of (state_in form)) (test_passed t StateInconsistent [] p.1).0)
 
 -- The form that is read is the form of its state.
-pub accepted_form : (form : List ℕ) → bytes form → load_answer form ≡ Accepted → form_of (load_of form).state ≡ form
+pub accepted_form : (form : List ℕ) → bytes form → load_answer form ≡ Ok tt → form_of (load_of form).state ≡ form
 accepted_form form b h = rw (loaded form h) (state_form form b (accepted form h).0)
 
 -- Each state has one form.
-pub one_form : (x y : List ℕ) → bytes x → bytes y → load_answer x ≡ Accepted → load_answer y ≡ Accepted → (load_of x).state ≡ (load_of y).state → x ≡ y
+pub one_form : (x y : List ℕ) → bytes x → bytes y → load_answer x ≡ Ok tt → load_answer y ≡ Ok tt → (load_of x).state ≡ (load_of y).state → x ≡ y
 one_form x y bx by hx hy e = sym (accepted_form x bx hx) ∙ ap form_of e ∙ accepted_form y by hy
 
 -- A state that is read is consistent, and its blocks compressed are derived from the bytes covered.
-pub accepted_consistent : (form : List ℕ) → load_answer form ≡ Accepted
+pub accepted_consistent : (form : List ℕ) → load_answer form ≡ Ok tt
     → (consistent_of (load_of form).state ≡ true) × ((load_of form).state.compressed ≡ (load_of form).state.covered.0 / block_bytes (load_of form).state.family)
 accepted_consistent form h = rw (loaded form h) ((accepted form h).1, unfold state_in in refl)
 
 -- A refusal hands back the all-zero state.
-pub refused_zero : (form : List ℕ) (r : Refusal) → load_answer form ≡ Refused r → (load_of form).state ≡ zero_state
+pub refused_zero : (form : List ℕ) (r : Refusal) → load_answer form ≡ Err r → (load_of form).state ≡ zero_state
 unfolding load_of
 refused_zero form r h = rw h

@@ -9,7 +9,7 @@ use borrow.Author.Tests.{le-ltb}
 use Rattle.family.specs.declared.Family.{Family}
 use Rattle.family.specs.declared.Family.TheVariants.{Small, Large}
 use Rattle.family.specs.Family.{block_bytes}
-use Rattle.answers.specs.declared.refusal.Answer.TheVariants.{Accepted}
+use Rattle.std.specs.Prelude.{Ok}
 use Rattle.state.specs.declared.State.{State}
 use Rattle.state.specs.State.{consistent_of}
 use Rattle.saved_form.specs.Form.{form_of, held_start, longest_form}
@@ -30,6 +30,6 @@ module _ (s : State) (stored : Stored s) where
   longest_met h = omega (arith, form_length s stored.sized, longest s.family)
 
 -- A consistent state is saved in a buffer that has room for its family's longest form.
-pub longest_room : (s : State) (out : List ℕ) → Stored s → consistent_of s ≡ true → longest_form s.family ≤ length out → save_answer s out ≡ Accepted
+pub longest_room : (s : State) (out : List ℕ) → Stored s → consistent_of s ≡ true → longest_form s.family ≤ length out → save_answer s out ≡ Ok tt
 unfolding save_answer
 longest_room s out stored h room = rw (h, le-ltb (length out) (length (form_of s)) (omega (arith, form_longest s stored)))

@@ -9,7 +9,7 @@ use lib.ListN.{length}
 use borrow.Author.Tests.{le-ltb, ltb-false, eq-eqb, eqb-true, not-false}
 use Rattle.answers.specs.declared.refusal.Refusal.{Refusal}
 use Rattle.answers.specs.declared.refusal.Refusal.TheVariants.{FormExtent, FormCount}
-use Rattle.answers.specs.declared.refusal.Answer.TheVariants.{Accepted}
+use Rattle.std.specs.Prelude.{Ok}
 use Rattle.answers.specs.Refusal.{judged}
 use Rattle.answers.proofs.Judged.{test_passed}
 use Rattle.fields.specs.Fields.{number_at}
@@ -25,7 +25,7 @@ module _ (form : List ℕ) (i count size : ℕ) (ts : List (Bool × Refusal)) wh
   section_passes s =
       rw (le-ltb (length form) (i + 2) (omega (arith, s.fits)), eq-eqb (number_at form i) count s.counted, le-ltb (length form) (i + 2 + size) s.fits)
 
-  pub section_passed : judged (section_tests form i count size ++ ts) ≡ Accepted → Section form i count size × (judged ts ≡ Accepted)
+  pub section_passed : judged (section_tests form i count size ++ ts) ≡ Ok tt → Section form i count size × (judged ts ≡ Ok tt)
   unfolding section_tests
   section_passed h =
       let last : List (Bool × Refusal) = (ltb (length form) (i + 2 + size), FormExtent) ∷ ts in
@@ -84,7 +84,7 @@ module _ (form : List ℕ) (ts : List (Bool × Refusal)) where
         le-ltb (held_start f + rest) (length form) w.end,
       )
 
-  pub form_passed : judged (form_tests form ++ ts) ≡ Accepted → Whole form f rest × (judged ts ≡ Accepted)
+  pub form_passed : judged (form_tests form ++ ts) ≡ Ok tt → Whole form f rest × (judged ts ≡ Ok tt)
   form_passed h =
       let a = section_passed form 0 2 4 ((ltb 1 (number_at form 2), FormCount) ∷ from_salt) (rw tests_joined at h) in
       let b = test_passed (ltb 1 (number_at form 2)) FormCount from_salt a.1 in

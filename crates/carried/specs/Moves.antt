@@ -15,7 +15,7 @@ pub data Move : Type 0 where
 
 -- the form that a save leaves at the buffer's front: as many bytes as it answers
 unfoldable pub form_left : State → List ℕ → List ℕ
-form_left s out = take (written_length (save_of s out).written) (save_buffer s out)
+form_left s out = take (written_length (save_of s out).answer) (save_buffer s out)
 
 -- The state that goes on after a move. A refused save leaves no form: what goes on is the state that it hands back.
 unfoldable pub after_move : State → Move → State

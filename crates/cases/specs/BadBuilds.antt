@@ -10,7 +10,7 @@ use Rattle.compress.specs.Expansion.{back, places, enters, taps_of, last_of, cou
 use Rattle.compress.specs.Cipher.{halves_round, inner_of, small_cipher}
 use Rattle.compress.specs.Compression.{small_output, compress_of}
 use Rattle.startup.specs.Startup.{master_of, start_of}
-use Rattle.answers.specs.declared.refusal.Answer.TheVariants.{Accepted}
+use Rattle.std.specs.Prelude.{Ok}
 use Rattle.family.specs.Family.{family_of}
 use Rattle.bits.specs.Bits.{high_bits, no_bits, last_fits, marked, kept, first_bits}
 use Rattle.bits.specs.Message.{Message, whole}
@@ -26,7 +26,7 @@ use Rattle.reports.specs.Report.{report_blocks}
 use Rattle.sequences.specs.Sequences.{add, after, after_call}
 
 -- One that refuses everything: begin of 256 bits with an empty salt is accepted.
-pub begins : begin_answer 256 [] ≡ Accepted
+pub begins : begin_answer 256 [] ≡ Ok tt
 unfolding begin_answer allowed salt_fits family_of
 begins = refl
 
@@ -42,7 +42,7 @@ unfolding one_shot_buffer one_shot_answer allowed salt_fits family_of last_fits 
 digests = refl
 
 -- One whose add returns its input state: an accepted add of at least a byte gives another state.
-pub add_moves : (s : State) (xs : List ℕ) → add_answer s xs ≡ Accepted → (add_of s xs).state ≡ s → length xs ≡ 0
+pub add_moves : (s : State) (xs : List ℕ) → add_answer s xs ≡ Ok tt → (add_of s xs).state ≡ s → length xs ≡ 0
 unfolding add_of absorbed
 add_moves s xs a e =
     let c : s.covered.0 + length xs ≡ s.covered.0 = rw a at (ap (λ (t : State). t.covered.0) e) in
@@ -57,7 +57,7 @@ unfolding after after_call begin_of begin_answer add_of add_answer absorbed held
 both_held = refl
 
 -- One that invents its block count: the count of an accepted one-shot is the length of the definition's list: 1 for no byte, 2 for 54.
-pub count_is : (m : ℕ) (salt : List ℕ) (x : Message) (out : List ℕ) → one_shot_answer m salt x out ≡ Accepted
+pub count_is : (m : ℕ) (salt : List ℕ) (x : Message) (out : List ℕ) → one_shot_answer m salt x out ≡ Ok tt
     → report_blocks (one_shot_of m salt x out) ≡ length (blocks_of (family_of m) m x)
 unfolding one_shot_of
 count_is m salt x out a = rw a

@@ -8,8 +8,7 @@ ghost use Rattle.compress.specs.Compression.{compress_of};
 use counter::Counter;
 use family::Family;
 
-// Takes the chain over one block. Each byte-form compression is called from here and from `start`: the compiler puts what one place calls
-// into its caller, and a small compression would then carry the large one's words on its stack.
+// Takes the chain over one block. The form stays a word at run time: a type for it would ask more of callers, who may choose it then.
 pub fn block(
     form: bool,
     family: Family,
@@ -41,17 +40,5 @@ pub fn start(form: bool, family: Family, chain: &mut [u32; 16], block: &[u8; 128
 {
     let counter = Counter::of(0);
     let salt = [0u8; 64];
-    if form {
-        let size = family.block_bytes();
-        expanded::run_by_tables(family, chain, fields::part(block, 0, size), counter, &salt);
-        return;
-    }
-    match family {
-        Family::Small => {
-            let mut h = *chain;
-            compress::small(&mut h, block, counter, &salt);
-            compress::feed(chain, &h);
-        }
-        Family::Large => expanded::large_by_bytes(chain, block, counter, &salt),
-    }
+    crate::block(form, family, chain, block, counter, &salt);
 }

@@ -1,138 +1,99 @@
 // The words behind a command: up to two names, an option that has a word behind it, and a flag.
-use hex_bytes::Decoded;
+use hex_bytes::HexError;
 use std::rt::Env;
 
-// Which argument is which, 0 where it is not given: the names, and the word behind the option; whether the flag is given; whether the option's word is
-// still to come; whether some word was one too many or unknown.
-#[derive(Clone, Copy)]
+// Which argument is which: the names, and the word behind the option; and the flag.
+#[derive(Clone, Copy, Default)]
 pub(crate) struct Asked {
-    pub(crate) first: usize,
-    pub(crate) second: usize,
-    pub(crate) option: usize,
+    pub(crate) first: Option<usize>,
+    pub(crate) second: Option<usize>,
+    pub(crate) option: Option<usize>,
+    // Whether one word was given: what it stands for is the command's to say, so that no enum names it here.
     pub(crate) flag: bool,
-    awaited: bool,
-    wrong: bool,
 }
 
-#[derive(Clone, Copy)]
 enum Kind {
     Name,
     Option,
     Flag,
-    Unknown,
 }
 
 // A command that has no flag hands in an empty one, which no word that starts with `--` is. A word that is too long is no option and no flag.
-fn kind_of(rt: &impl Env, i: usize, option: &[u8], flag: &[u8]) -> Kind {
-    let mut text = [0u8; 4096];
-    let Ok(size) = rt.arg(i, &mut text) else {
-        return Kind::Name;
+fn kind_of(rt: &impl Env, i: usize, option: &[u8], flag: &[u8]) -> Option<Kind> {
+    let mut text = [0u8; command_line::WORD];
+    let word = match rt.arg(i, &mut text) {
+        Ok(size) => &text[..size],
+        Err(_) => return Some(Kind::Name),
     };
-    if !fields::same(fields::part(&text[..size], 0, 2), b"--") {
-        return Kind::Name;
+    if !word.starts_with(b"--") {
+        return Some(Kind::Name);
     }
-    if fields::same(&text[..size], option) {
-        return Kind::Option;
+    if word == option {
+        return Some(Kind::Option);
     }
-    if fields::same(&text[..size], flag) {
-        return Kind::Flag;
+    if word == flag {
+        return Some(Kind::Flag);
     }
-    Kind::Unknown
+    None
 }
 
-fn wrong(asked: Asked) -> Asked {
-    let mut next = asked;
-    next.wrong = true;
-    next
-}
-
-fn with_name(asked: Asked, i: usize) -> Asked {
-    let mut next = asked;
-    if asked.first == 0 {
-        next.first = i;
-        return next;
+impl Asked {
+    fn take_name(&mut self, i: usize) -> Option<()> {
+        if self.first.is_none() {
+            self.first = Some(i);
+            return Some(());
+        }
+        if self.second.is_some() {
+            return None;
+        }
+        self.second = Some(i);
+        Some(())
     }
-    if asked.second == 0 {
-        next.second = i;
-        return next;
-    }
-    wrong(asked)
-}
 
-fn with_option(asked: Asked, i: usize) -> Asked {
-    if asked.option != 0 {
-        return wrong(asked);
+    fn take_option(&mut self, i: usize) -> Option<()> {
+        if self.option.is_some() {
+            return None;
+        }
+        self.option = Some(i);
+        Some(())
     }
-    let mut next = asked;
-    next.option = i;
-    next.awaited = false;
-    next
-}
 
-fn with_flag(asked: Asked) -> Asked {
-    if asked.flag {
-        return wrong(asked);
-    }
-    let mut next = asked;
-    next.flag = true;
-    next
-}
-
-fn awaiting(asked: Asked) -> Asked {
-    let mut next = asked;
-    next.awaited = true;
-    next
-}
-
-fn with(rt: &impl Env, asked: Asked, i: usize, option: &[u8], flag: &[u8]) -> Asked {
-    if asked.awaited {
-        return with_option(asked, i);
-    }
-    match kind_of(rt, i, option, flag) {
-        Kind::Name => with_name(asked, i),
-        Kind::Option => awaiting(asked),
-        Kind::Flag => with_flag(asked),
-        Kind::Unknown => wrong(asked),
+    fn take_flag(&mut self) -> Option<()> {
+        if self.flag {
+            return None;
+        }
+        self.flag = true;
+        Some(())
     }
 }
 
-fn nothing() -> Asked {
-    Asked {
-        first: 0,
-        second: 0,
-        option: 0,
-        flag: false,
-        awaited: false,
-        wrong: false,
+// The words behind the command, option and flag before, between or behind the names, each at most once: none where a word is one too many, unknown or
+// missing. Each command counts the names by itself.
+pub(crate) fn read(rt: &impl Env, count: usize, option: &[u8], flag: &[u8]) -> Option<Asked> {
+    let mut asked = Asked::default();
+    // An option takes the word behind it out of the range too, which a `for` does not hand out.
+    let mut words = 2..count;
+    while let Some(i) = words.next() {
+        match kind_of(rt, i, option, flag)? {
+            Kind::Name => asked.take_name(i)?,
+            Kind::Option => asked.take_option(words.next()?)?,
+            Kind::Flag => asked.take_flag()?,
+        }
     }
+    Some(asked)
 }
 
-// The words behind the command, option and flag before, between or behind the names, each at most once.
-pub(crate) fn read(rt: &impl Env, count: usize, option: &[u8], flag: &[u8]) -> Asked {
-    let mut asked = nothing();
-    for i in 2..count {
-        let next = with(rt, asked, i, option, flag);
-        asked = next;
-    }
-    asked
-}
-
-// Whether no word is wrong or missing, but for names, which each command counts by itself.
-pub(crate) fn is_right(asked: Asked) -> bool {
-    if asked.awaited {
-        return false;
-    }
-    !asked.wrong
-}
-
-// The bytes that argument i spells in hex, at the start of `out`: none where i is 0.
-pub(crate) fn hex_word(rt: &impl Env, i: usize, out: &mut [u8]) -> Decoded {
-    if i == 0 {
-        return Decoded::Bytes(0);
-    }
-    let mut text = [0u8; 4096];
-    let Ok(size) = rt.arg(i, &mut text) else {
-        return Decoded::NoRoom;
+// The bytes that an argument spells in hex, at the start of `out`: none where there is no such argument. For a word that is too long there is no room either. (See `tag_bits`
+// in mac for why each program has its own.)
+pub(crate) fn hex_word(
+    rt: &impl Env,
+    argument: Option<usize>,
+    out: &mut [u8],
+) -> Result<usize, HexError> {
+    let Some(i) = argument else {
+        return Ok(0);
     };
+    let mut text = [0u8; command_line::WORD];
+    let size = rt.arg(i, &mut text).map_err(|_| HexError::NoRoom)?;
     hex_bytes::decode(&text[..size], out)
 }

@@ -1,111 +1,97 @@
 // chimbersu mac KEYFILE [M] [--check TAG-HEX]: the tag of standard input under a key, or whether a tag is the right one.
 use crate::asked::Asked;
-use crate::files::Loaded;
-use crate::{asked, files, message, saying};
-use answers::Answer;
-use decimal::Number;
-use hex_bytes::Decoded;
+use crate::{asked, files, saying};
+use hex_bytes::HexError;
 use keyed_state::Keyed;
 use std::io;
 use std::rt::Env;
-use streaming::Status;
+use streaming::{Hex, Stop};
 
 // One byte more than the longest key has: what is longer is refused by it.
 const KEY: usize = keyed::KEY_LIMIT + 1;
 
-// One byte more than the longest tag has: what is longer is no tag, as the whole room is none.
+// One byte more than the longest tag has. A tag given that is longer has no room here: it is checked as so many bytes, and the answer is no, since no tag has that length.
 const TAG: usize = 65;
 
-fn print_tag(rt: &HostRuntime, tag: &[u8], covered: u64) -> io::Result<()> {
-    let mut line = [0u8; 256];
-    let a = text::put_hex(&mut line, 0, tag);
-    let b = text::put(&mut line, a, b" ");
-    let c = text::put_decimal(&mut line, b, covered);
-    let size = text::put(&mut line, c, b"\n");
-    saying::print(rt, text::first(&line, size))
-}
-
+// The tag is taken by `text::first`, as key and tag are below: that so many bytes are in the buffer stands in no clause of the calls that say how many there are.
 fn finish(rt: &HostRuntime, keyed: Keyed) -> io::Result<()> {
     let mut tag = [0u8; 64];
-    let finished = keyed::finish(form::TABLES, keyed, &mut tag);
-    let tagged = finished.tagged;
-    if tagged.number() != 0 {
-        return saying::refuse(rt, tagged.number());
+    match keyed::finish(form::TABLES, keyed, &mut tag).answer {
+        Ok(covered) => {
+            let inner = keyed.inner;
+            let spelled = Hex(text::first(&tag, usize::from(inner.m) / 8));
+            saying::printed(rt, println!(rt; "{spelled} {}", covered.0))
+        }
+        Err(refusal) => saying::refuse(rt, refusal),
     }
-    let inner = keyed.inner;
-    print_tag(
-        rt,
-        text::first(&tag, inner.m as usize / 8),
-        tagged.covered(),
-    )
 }
 
 fn check(rt: &HostRuntime, keyed: Keyed, tag: &[u8]) -> io::Result<()> {
-    let compared = keyed::check(form::TABLES, keyed, tag);
-    let check = compared.check;
-    if check.number() != 0 {
-        return saying::refuse(rt, check.number());
+    match keyed::check(form::TABLES, keyed, tag).answer {
+        Ok(true) => saying::printed(rt, println!(rt; "yes")),
+        Ok(false) => saying::printed(rt, println!(rt; "no")),
+        Err(refusal) => saying::refuse(rt, refusal),
     }
-    if check.is_yes() {
-        return saying::print(rt, b"yes\n");
-    }
-    saying::print(rt, b"no\n")
 }
 
 // Takes in the message; then makes the tag, or checks the one given.
-fn tag_input(rt: &HostRuntime, keyed: Keyed, checks: bool, tag: &[u8]) -> io::Result<()> {
+fn tag_input(rt: &HostRuntime, keyed: Keyed, given: Option<&[u8]>) -> io::Result<()> {
     let mut buffer = [0u8; 65536];
-    let turn = message::add_all(&mut rt.stdin(), keyed, &mut buffer);
-    let status = turn.status;
-    match status {
-        Status::End => {
-            if checks {
-                return check(rt, turn.keyed, tag);
-            }
-            finish(rt, turn.keyed)
-        }
-        Status::Refused(refusal) => saying::refuse(rt, refusal.number()),
-        _ => saying::complain(rt, b"standard input cannot be read"),
+    match streaming::add_all(&mut rt.stdin(), form::TABLES, keyed, &mut buffer) {
+        Ok(reached) => match given {
+            Some(tag) => check(rt, reached, tag),
+            None => finish(rt, reached),
+        },
+        Err(Stop::Refused(refusal)) => saying::refuse(rt, refusal),
+        Err(Stop::Failed) => saying::complain(rt, "standard input cannot be read"),
     }
 }
 
-fn begin(rt: &HostRuntime, asked: Asked, m: u16, tag: &[u8]) -> io::Result<()> {
+fn begin(rt: &HostRuntime, name: usize, m: u16, given: Option<&[u8]>) -> io::Result<()> {
     let mut key = [0u8; KEY];
-    let Loaded::Bytes(size) = files::load(rt, asked.first, &mut key)? else {
+    let Some(size) = files::load(rt, name, &mut key)? else {
         return Ok(());
     };
-    let step = keyed::begin(form::TABLES, m, text::first(&key, size));
-    let answer = step.answer;
-    match answer {
-        Answer::Accepted => tag_input(rt, step.keyed, asked.option != 0, tag),
-        Answer::Refused(refusal) => saying::refuse(rt, refusal.number()),
+    let begun = keyed::begin(form::TABLES, m, text::first(&key, size));
+    match begun.answer {
+        Ok(()) => tag_input(rt, begun.state, given),
+        Err(refusal) => saying::refuse(rt, refusal),
     }
 }
 
-// The tag's length in bits that argument i spells, which begin judges: 256 where i is 0.
-fn tag_bits(rt: &impl Env, i: usize) -> Number {
-    if i == 0 {
-        return Number::Is(256);
-    }
-    let mut text = [0u8; 4096];
-    let Ok(size) = rt.arg(i, &mut text) else {
-        return Number::Bad;
+// The tag's length in bits that an argument spells, which begin judges: 256 where there is no such argument. `shavite3sum` has a function of its own for its length: one
+// for both programs would be public and could promise nothing, since no contract says what a word is.
+fn tag_bits(rt: &HostRuntime, argument: Option<usize>) -> Option<u16> {
+    let Some(i) = argument else {
+        return Some(256);
     };
+    let mut text = [0u8; command_line::WORD];
+    let size = rt.arg(i, &mut text).ok()?;
     decimal::read(&text[..size])
 }
 
 pub(crate) fn run(rt: &HostRuntime) -> io::Result<()> {
-    let asked = asked::read(rt, command_line::count(rt), b"--check", b"");
-    if asked.first == 0 || !asked::is_right(asked) {
+    let Some(
+        Asked {
+            first: Some(key),
+            second,
+            option,
+            ..
+        },
+    ) = asked::read(rt, command_line::count(rt), b"--check", b"")
+    else {
         return saying::help_mac(rt);
-    }
-    let Number::Is(m) = tag_bits(rt, asked.second) else {
-        return saying::complain(rt, b"the tag length is not a decimal number up to 65535");
+    };
+    let Some(m) = tag_bits(rt, second) else {
+        return saying::complain(rt, "the tag length is not a decimal number up to 65535");
     };
     let mut tag = [0u8; TAG];
-    match asked::hex_word(rt, asked.option, &mut tag) {
-        Decoded::Bytes(size) => begin(rt, asked, m, text::first(&tag, size)),
-        Decoded::NoRoom => begin(rt, asked, m, &tag),
-        Decoded::NotHex => saying::complain(rt, b"the tag is not hex digits, two a byte"),
-    }
+    let size = match asked::hex_word(rt, option, &mut tag) {
+        Ok(size) => size,
+        Err(HexError::NoRoom) => TAG,
+        Err(HexError::NotHex) => {
+            return saying::complain(rt, "the tag is not hex digits, two a byte");
+        }
+    };
+    begin(rt, key, m, option.map(|_| text::first(&tag, size)))
 }

@@ -4,7 +4,6 @@
 mod asked;
 mod files;
 mod mac;
-mod message;
 mod saying;
 mod writing;
 
@@ -12,15 +11,13 @@ use std::io;
 use std::rt::Env;
 
 fn main(rt: HostRuntime) -> io::Result<()> {
-    let mut word = [0u8; 4096];
+    let mut word = [0u8; command_line::WORD];
     let Ok(size) = rt.arg(1, &mut word) else {
         return saying::help(&rt);
     };
-    if fields::same(&word[..size], b"write") {
-        return writing::run(&rt);
+    match &word[..size] {
+        b"write" => writing::run(&rt),
+        b"mac" => mac::run(&rt),
+        _ => saying::help(&rt),
     }
-    if fields::same(&word[..size], b"mac") {
-        return mac::run(&rt);
-    }
-    saying::help(&rt)
 }

@@ -1,4 +1,5 @@
 // What is said on standard error, and what goes to standard output.
+use answers::Refusal;
 use std::io;
 
 // For whoever gave no words, or an unknown command.
@@ -27,21 +28,15 @@ pub(crate) fn help_mac(rt: &HostRuntime) -> io::Result<()> {
     )
 }
 
-pub(crate) fn complain(rt: &HostRuntime, message: &[u8]) -> io::Result<()> {
-    let to = rt.stderr();
-    to.write_all(b"chimbersu: ")?;
-    to.write_all(message)?;
-    to.write_all(b"\n")
+pub(crate) fn complain(rt: &HostRuntime, message: &str) -> io::Result<()> {
+    eprintln!(rt; "chimbersu: {message}")
 }
 
-pub(crate) fn refuse(rt: &HostRuntime, number: u8) -> io::Result<()> {
-    streaming::print_refusal(&rt.stderr(), number)
+pub(crate) fn refuse(rt: &HostRuntime, refusal: Refusal) -> io::Result<()> {
+    streaming::print_refusal(&rt.stderr(), refusal.number())
 }
 
-// A failure is said.
-pub(crate) fn print(rt: &HostRuntime, bytes: &[u8]) -> io::Result<()> {
-    match rt.write_all(bytes) {
-        Ok(()) => Ok(()),
-        Err(error) => command_line::fail(&rt.stderr(), b"standard output", &error),
-    }
+// Where standard output could not be written, that is said.
+pub(crate) fn printed(rt: &HostRuntime, written: io::Result<()>) -> io::Result<()> {
+    written.or_else(|error| command_line::fail(&rt.stderr(), b"standard output", &error))
 }

@@ -1,53 +1,56 @@
 // chimbersu write REGISTERS EVENTS [--salt HEX] [--claims]: a boot log from its parts.
 use crate::asked::Asked;
-use crate::files::Loaded;
 use crate::{asked, files, saying};
-use answers::Written;
-use hex_bytes::Decoded;
+use hex_bytes::HexError;
 use std::io;
 
 // One byte more than the most registers and events have: what is longer is refused by it.
-const REGISTERS: usize = 32 * layout::MOST_REGISTERS + 1;
+const REGISTERS: usize = layout::REGISTER_BYTES * layout::MOST_REGISTERS + 1;
 
-const EVENTS: usize = 36 * layout::MOST_EVENTS + 1;
+const EVENTS: usize = layout::EVENT_BYTES * layout::MOST_EVENTS + 1;
 
-fn print(rt: &HostRuntime, written: Written, log: &[u8]) -> io::Result<()> {
-    if written.number() != 0 {
-        return saying::refuse(rt, written.number());
-    }
-    saying::print(rt, text::first(log, written.length()))
-}
+// The longest salt that is read.
+const SALT: usize = 64;
 
-fn write(rt: &HostRuntime, asked: Asked, salt: &[u8]) -> io::Result<()> {
+// The parts are taken by `text::first`: `load` and `logger::write` say how many bytes there are, and that so many fit stands in no clause of theirs.
+fn write(rt: &HostRuntime, names: (usize, usize), salt: &[u8], claims: bool) -> io::Result<()> {
     let mut registers = [0u8; REGISTERS];
-    let Loaded::Bytes(r) = files::load(rt, asked.first, &mut registers)? else {
+    let Some(r) = files::load(rt, names.0, &mut registers)? else {
         return Ok(());
     };
     let mut events = [0u8; EVENTS];
-    let Loaded::Bytes(n) = files::load(rt, asked.second, &mut events)? else {
+    let Some(n) = files::load(rt, names.1, &mut events)? else {
         return Ok(());
     };
+    let registers = text::first(&registers, r);
+    let events = text::first(&events, n);
     let mut log = [0u8; layout::LONGEST];
-    let written = logger::write(
-        salt,
-        text::first(&registers, r),
-        text::first(&events, n),
-        asked.flag,
-        &mut log,
-    );
-    print(rt, written, &log)
+    match logger::write(salt, registers, events, claims, &mut log) {
+        Ok(size) => saying::printed(rt, rt.write_all(text::first(&log, size))),
+        Err(refusal) => saying::refuse(rt, refusal),
+    }
 }
 
 // A salt that has no room is longer than any that is allowed, as the whole room is: it is refused like that.
 pub(crate) fn run(rt: &HostRuntime) -> io::Result<()> {
-    let asked = asked::read(rt, command_line::count(rt), b"--salt", b"--claims");
-    if asked.second == 0 || !asked::is_right(asked) {
+    let Some(
+        Asked {
+            first: Some(registers),
+            second: Some(events),
+            option,
+            flag,
+        },
+    ) = asked::read(rt, command_line::count(rt), b"--salt", b"--claims")
+    else {
         return saying::help_write(rt);
-    }
-    let mut salt = [0u8; 64];
-    match asked::hex_word(rt, asked.option, &mut salt) {
-        Decoded::Bytes(size) => write(rt, asked, text::first(&salt, size)),
-        Decoded::NoRoom => write(rt, asked, &salt),
-        Decoded::NotHex => saying::complain(rt, b"the salt is not hex digits, two a byte"),
-    }
+    };
+    let mut salt = [0u8; SALT];
+    let size = match asked::hex_word(rt, option, &mut salt) {
+        Ok(size) => size,
+        Err(HexError::NoRoom) => SALT,
+        Err(HexError::NotHex) => {
+            return saying::complain(rt, "the salt is not hex digits, two a byte");
+        }
+    };
+    write(rt, (registers, events), text::first(&salt, size), flag)
 }

@@ -1,10 +1,10 @@
 // The words that a program is started with, the files that they name, and the line that says what failed.
 #![tactic(auto)]
 
-ghost use Rattle.std.specs.Prelude.{◌≤◌};
+ghost use Rattle.std.specs.Prelude.{◌≤◌, length};
 
 use std::env::FillError;
-use std::io::{ErrorKind, Write};
+use std::io::{ErrorKind, Read, Write};
 use std::rt::{Env, Files};
 use std::{fs, io, str};
 
@@ -12,6 +12,9 @@ use std::{fs, io, str};
 const INVALID: i32 = 22;
 
 const TOO_LONG: i32 = 36;
+
+// The longest word that is read.
+pub const WORD: usize = 4096;
 
 // The longest text of an error, and more.
 const ROOM: usize = 128;
@@ -27,7 +30,7 @@ pub fn count(rt: &impl Env) -> usize {
     usize::MAX
 }
 
-// Why a word did not come, as an error of the system.
+// Why a word did not come, as an error of the system. Both types are std's, so that no `From` between them can stand here.
 pub fn word_error(error: FillError) -> io::Error {
     match error {
         FillError::NotPresent => io::Error::from_raw_os_error(INVALID),
@@ -37,10 +40,24 @@ pub fn word_error(error: FillError) -> io::Error {
 
 // Opens a file for reading. Only a name that is UTF-8 can be opened.
 pub fn open<R: Files>(rt: &R, name: &[u8]) -> io::Result<R::File> {
-    match str::from_utf8(name) {
-        Ok(path) => fs::open(rt, path),
-        Err(_) => Err(io::Error::from(ErrorKind::InvalidFilename)),
+    let path = str::from_utf8(name).map_err(|_| io::Error::from(ErrorKind::InvalidFilename))?;
+    fs::open(rt, path)
+}
+
+// Reads until the buffer is full, the file ends or a read fails: how many bytes came, and whether a read failed. Each read says how far the next one goes, so that
+// no range or iterator gives the turns.
+pub fn read_full(file: &mut impl Read, buffer: &mut [u8]) -> (usize, io::Result<()>)
+    ensures { result.0 ≤ length buffer.new }
+{
+    let mut done = 0;
+    while done < buffer.len() {
+        match file.read(&mut buffer[done..]) {
+            Ok(0) => return (done, Ok(())),
+            Ok(n) => done += n,
+            Err(error) => return (done, Err(error)),
+        }
     }
+    (done, Ok(()))
 }
 
 // Puts the error's text at the start of `out`, as far as there is room, and answers its length.
@@ -54,10 +71,8 @@ fn put_error(error: &io::Error, out: &mut [u8; ROOM]) -> usize
 
 // The words of an error's text, without the system's number behind them.
 fn words(text: &str) -> &str {
-    match text.split_once(" (os error ") {
-        Some((words, _)) => words,
-        None => text,
-    }
+    text.split_once(" (os error ")
+        .map_or(text, |(words, _)| words)
 }
 
 // Writes a line: what failed, as the caller names it, a colon and the error's words.

@@ -1,14 +1,15 @@
 -- Lists of four words, and stores of them read back.
 use mathlib.Core.Path.{◌≡◌, refl, ap, ◌∙◌}
 use mathlib.Core.Logic.{◌≢◌}
-use mathlib.Core.List.{List, [], ◌∷◌, ◌++◌}
-use Prim.Native.Nat.{ℕ, zero, suc, ◌+◌, ◌≤◌, ◌<◌}
+use mathlib.Core.List.{List, [], ◌∷◌, ◌++◌, append_assoc, append-nil}
+use Prim.Native.Nat.{ℕ, zero, suc, ◌+◌, ◌-◌, ◌*◌, ◌≤◌, ◌<◌}
+use borrow.Rule.Slice.PartMut.{put_mid}
 use native.Mathlib.Nat.{add-zero}
 use native.Mathlib.Numerals.{add-one, add-two, add-three, add-four}
 use native.Mathlib.Omega.{arith}
-use lib.ListN.{length, get_or, set, take, drop, length-append, get_or-append}
-use lib.Seq.{sets, drop-cons, drop-set-lt, sets-eq, length-take-le, get_or-append-add, get_or-set_other}
-use Rattle.words.specs.Words.{four_at}
+use lib.ListN.{length, get_or, set, take, drop, length-append, length-drop, get_or-append, drop_of_length-le}
+use lib.Seq.{sets, drop-cons, drop-set-lt, sets-eq, length-take-le, get_or-take, get_or-drop, drop-drop, get_or-append-add, get_or-set_other}
+use Rattle.words.specs.Words.{word_at, four_at}
 
 pub four_of : (x : List ℕ) → length x ≡ 4 → (get_or x 0 0 ∷ get_or x 1 0 ∷ get_or x 2 0 ∷ get_or x 3 0 ∷ []) ≡ x
 four_of [] h = absurd (omega arith)
@@ -89,3 +90,30 @@ fours_joined (a ∷ b ∷ []) v h = absurd (omega arith)
 fours_joined (a ∷ b ∷ c ∷ []) v h = absurd (omega arith)
 fours_joined (a ∷ b ∷ c ∷ d ∷ []) v h = (refl, refl)
 fours_joined (a ∷ b ∷ c ∷ d ∷ e ∷ x) v h = absurd (omega arith)
+
+-- ---- four words as a part of a slice
+-- lent
+pub four_part : (w : List ℕ) (i : ℕ) → four_at (take (i + 4 - i) (drop i w)) 0 ≡ four_at w i
+unfolding four_at
+four_part w i =
+    let e : i + 4 - i ≡ 4 = omega arith in
+    let at : (t : ℕ) → t < 4 → get_or (take 4 (drop i w)) t 0 ≡ get_or w (i + t) 0 = λ t h. get_or-take 4 (drop i w) t 0 h ∙ get_or-drop i w t 0 in
+    rw (e, rw (add-zero i) at (at 0 (omega arith)), at 1 (omega arith), at 2 (omega arith), at 3 (omega arith))
+
+-- a word's four bytes, lent so
+pub word_part : (b : List ℕ) (i n j : ℕ) → i ≡ 4 * j → n ≡ 4 → word_at (take n (drop i b)) 0 ≡ word_at b j
+unfolding word_at
+word_part b i n j e k =
+    let at : (t : ℕ) → t < 4 → get_or (take 4 (drop i b)) t 0 ≡ get_or b (i + t) 0 = λ t h. get_or-take 4 (drop i b) t 0 h ∙ get_or-drop i b t 0 in
+    rw (k, rw (add-zero i) at (at 0 (omega arith)), at 1 (omega arith), at 2 (omega arith), at 3 (omega arith), e)
+
+-- and written
+sets_whole : (l x : List ℕ) → length l ≡ length x → sets l 0 x ≡ x
+sets_whole l x e = sets-eq x l 0 (omega arith) ∙ ap (λ (r : List ℕ). x ++ r) (drop_of_length-le l (omega arith)) ∙ append-nil x
+
+pub part_put : (l x part : List ℕ) (i : ℕ) → length x ≡ 4 → i + 4 ≤ length l → part ≡ sets (take (i + 4 - i) (drop i l)) 0 x → put_mid i (i + 4 - i) l part ≡ sets l i x
+part_put l x part i n h p =
+    let e : i + 4 - i ≡ 4 = omega arith in
+    let long : length (take 4 (drop i l)) ≡ length x = rw n (length-take-le 4 (drop i l) (omega (arith, length-drop i l))) in
+    let whole : part ≡ x = p ∙ rw e (sets_whole (take 4 (drop i l)) x long) in
+    rw (whole, e, sets-eq x l i (omega arith), n, drop-drop 4 i l, append_assoc (take i l) x (drop (i + 4) l))

@@ -7,6 +7,7 @@ use native.Mathlib.Omega.{arith}
 use mathlib.Core.List.{List, [], ◌∷◌, ◌++◌, append_assoc}
 use lib.ListN.{length, get_or, set, take, drop, length-append}
 use lib.Seq.{take-suc-set, get_or-take, length-take-le, length-sets, set_at, sets, sets-eq, take_at, take_all, drop-cons, append_snoc}
+use borrow.Rule.Slice.PartMut.{put_mid}
 use native.Mathlib.Decide.{ℕ_discrete}
 use mathlib.Core.Bool.{cond}
 use lib.Dec.{eqb}
@@ -18,7 +19,7 @@ use Rattle.family.specs.declared.Family.TheVariants.{Small, Large}
 use Rattle.counter.specs.declared.Counter.{Counter}
 use Rattle.family.specs.Family.{block_words, near_distance, salt_quads, runs, expanded_words}
 use Rattle.family.proofs.Numbers.{numbers}
-use Rattle.compress.proofs.Fours.{four_of}
+use Rattle.compress.proofs.Fours.{four_of, part_put}
 use Rattle.compress.specs.Expansion.{back, places, enters, counts_of, entered_of, taps_of, last_of, group_of, linear_of, linear_run, nonlinear_run, run_of, expand_of}
 
 pub times_more : {A : Type 0} (n : ℕ) (f : ℕ → A → A) (s : A) → times (n + 1) f s ≡ f n (times n f s)
@@ -70,6 +71,23 @@ stores_sixteen l a b c d n ha hb hc hd =
     let two = put_four l1 b 4 hb (omega arith) ∙ ap (λ (u : List ℕ). u ++ b) (put_four l a 0 ha (omega arith)) in
     let three = put_four l2 c 8 hc (omega arith) ∙ ap (λ (u : List ℕ). u ++ c) two in
     sym (take_all 16 (sets l3 12 d) (omega arith)) ∙ put_four l3 d 12 hd (omega arith) ∙ ap (λ (u : List ℕ). u ++ d) three ∙ append_assoc (a ++ b) c d ∙ append_assoc a b (c ++ d)
+
+-- and so they are as parts of a slice
+module _ (l a b c d na nb nc nd : List ℕ) (n : length l ≡ 16) (ha : length a ≡ 4) (hb : length b ≡ 4) (hc : length c ≡ 4) (hd : length d ≡ 4) where
+  pub parts_sixteen : na ≡ sets (take 4 l) 0 a → nb ≡ sets (take 4 (drop 4 (put_mid 0 4 l na))) 0 b → nc ≡ sets (take 4 (drop 8 (put_mid 4 4 (put_mid 0 4 l na) nb))) 0 c
+      → nd ≡ sets (take 4 (drop 12 (put_mid 8 4 (put_mid 4 4 (put_mid 0 4 l na) nb) nc))) 0 d
+      → put_mid 12 4 (put_mid 8 4 (put_mid 4 4 (put_mid 0 4 l na) nb) nc) nd ≡ a ++ (b ++ (c ++ d))
+  parts_sixteen ea eb ec ed =
+      let l1 = sets l 0 a in
+      let l2 = sets l1 4 b in
+      let l3 = sets l2 8 c in
+      let p1 : put_mid 0 4 l na ≡ l1 = part_put l a na 0 ha (omega arith) ea in
+      let n1 : length (put_mid 0 4 l na) ≡ 16 = ap (λ (u : List ℕ). length u) p1 ∙ length-sets l 0 a ∙ n in
+      let p2 : put_mid 4 4 (put_mid 0 4 l na) nb ≡ l2 = part_put _ b nb 4 hb (omega (arith, n1)) eb ∙ ap (λ (u : List ℕ). sets u 4 b) p1 in
+      let n2 : length (put_mid 4 4 (put_mid 0 4 l na) nb) ≡ 16 = ap (λ (u : List ℕ). length u) p2 ∙ length-sets l1 4 b ∙ length-sets l 0 a ∙ n in
+      let p3 : put_mid 8 4 (put_mid 4 4 (put_mid 0 4 l na) nb) nc ≡ l3 = part_put _ c nc 8 hc (omega (arith, n2)) ec ∙ ap (λ (u : List ℕ). sets u 8 c) p2 in
+      let n3 : length (put_mid 8 4 (put_mid 4 4 (put_mid 0 4 l na) nb) nc) ≡ 16 = ap (λ (u : List ℕ). length u) p3 ∙ length-sets l2 8 c ∙ length-sets l1 4 b ∙ length-sets l 0 a ∙ n in
+      part_put _ d nd 12 hd (omega (arith, n3)) ed ∙ ap (λ (u : List ℕ). sets u 12 d) p3 ∙ stores_sixteen l a b c d n ha hb hc hd
 
 -- ---- words read back from an array that is filled up to i
 pub back_take : (w : List ℕ) (i d : ℕ) → i ≤ length w → 0 < d → d ≤ i → get_or w (i - d) 0 ≡ back (take i w) d

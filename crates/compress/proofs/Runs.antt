@@ -1,12 +1,12 @@
 -- A run of blocks: one of them, and the whole blocks of a list taken from its front.
 use mathlib.Core.Path.{◌≡◌, ◌∙◌}
-use mathlib.Core.List.{List}
-use Prim.Native.Nat.{ℕ, ◌+◌, ◌-◌, ◌*◌, ◌/◌, ◌≤◌, ◌<◌}
+use mathlib.Core.List.{List, ◌++◌}
+use Prim.Native.Nat.{ℕ, ◌+◌, ◌*◌, ◌/◌, ◌≤◌, ◌<◌}
 use native.Mathlib.Omega.{arith}
 use native.Mathlib.Nat.{add-div_left, div-eq_of_lt, div_self}
 use native.Mathlib.Numerals.{add-one}
-use lib.ListN.{length, take, drop, length-drop}
-use lib.Seq.{drop-drop, length-take-le}
+use lib.ListN.{length, take, drop, length-append, length-drop}
+use lib.Seq.{length-take-le, take_at, drop_at}
 use Rattle.family.specs.declared.Family.{Family}
 use Rattle.family.specs.Family.{block_bytes}
 use Rattle.family.proofs.Sizes.{block_pos}
@@ -36,13 +36,14 @@ module _ (f : Family) (salt : List ℕ) (c : Counter) (xs chain : List ℕ) wher
       let e : length xs ≡ b + length (drop b xs) = simp length-drop (omega arith) in
       rw (e, add-div_left (length (drop b xs)) (block_pos f), add-one)
 
--- a turn of the loop over xs: the block from i on
-pub run_turn : (f : Family) (salt : List ℕ) (c : Counter) (xs chain : List ℕ) (i : ℕ) {size : ℕ} → size ≡ block_bytes f → size ≤ length xs - i → {next : Counter} {after : List ℕ}
-    → next ≡ counter_of (number_of c + 8 * size) → after ≡ compress_of f chain (take (i + size - i) (drop i xs)) c salt
-    → run_over f salt (length (drop i xs) / block_bytes f) c (drop i xs) chain ≡ run_over f salt (length (drop (i + size) xs) / block_bytes f) next (drop (i + size) xs) after
-run_turn f salt c xs chain i {size} es h en ea =
-    let e : i + size - i ≡ size = omega arith in
-    run_more f salt c (drop i xs) chain (omega (arith, length-drop i xs)) ∙ rw (en, ea, e, es, drop-drop (block_bytes f) i xs)
+-- a turn of the loop: the next block comes off the front
+pub run_turn : (f : Family) (salt : List ℕ) (c : Counter) (chain rest block more : List ℕ) {size : ℕ} → size ≡ block_bytes f → rest ≡ block ++ more → length block ≡ size
+    → {next : Counter} {after : List ℕ} → next ≡ counter_of (number_of c + 8 * size) → after ≡ compress_of f chain block c salt
+    → run_over f salt (length rest / block_bytes f) c rest chain ≡ run_over f salt (length more / block_bytes f) next more after
+run_turn f salt c chain rest block more es e l en ea =
+    let n : length block ≡ block_bytes f = l ∙ es in
+    rw (e, en, ea, es)
+    (run_more f salt c (block ++ more) chain (omega (arith, length-append block more)) ∙ rw (take_at block more (block_bytes f) n, drop_at block more (block_bytes f) n))
 
 -- the run over the front of a block that holds as many bytes
 pub run_block : (f : Family) (salt : List ℕ) (c : Counter) (block chain : List ℕ) {size : ℕ} → size ≡ block_bytes f → size ≤ length block

@@ -1,18 +1,15 @@
--- The window of sixteen words, and the steps of the cipher's inner function.
-use mathlib.Core.Path.{◌≡◌, refl, sym, ◌∙◌}
-use Prim.Native.Nat.{ℕ, zero, suc, ◌+◌, ◌-◌, ◌*◌, ◌%◌, ◌≤◌, ◌<◌}
-use native.Mathlib.Numerals.{add-one}
+-- The window of sixteen words.
+use mathlib.Core.Path.{◌≡◌, ◌∙◌}
+use Prim.Native.Nat.{ℕ, ◌+◌, ◌-◌, ◌%◌, ◌≤◌, ◌<◌}
 use native.Mathlib.Omega.{arith}
 use native.Mathlib.Decide.{dec_lt}
 use mathlib.Core.List.{List}
 use lib.ListN.{length, get_or}
 use lib.Seq.{sets, length-sets}
-use Rattle.words.specs.Words.{times, four_at, round_of, zero4}
-use Rattle.compress.specs.Cipher.{inner_of}
-use Rattle.compress.specs.Window.{Holds, step_of, steps_of}
+use Rattle.words.specs.Words.{four_at}
+use Rattle.compress.specs.Window.{Holds}
 use Rattle.compress.proofs.Fours.{stored, kept, four_at_lem, four_length}
 
--- ---- the window
 pub holds_none : (w v : List ℕ) → Holds w v 0
 unfolding Holds
 holds_none w v j h k = absurd (omega arith)
@@ -41,31 +38,7 @@ holds_put w v x i s n e g j h k = rw g (go (dec_lt j i))
         let to : i + (j - i) ≡ j = omega arith in
         rw at (stored w (i % 16) (four_at v i) (j - i) (omega arith) (omega arith)) ∙ rw to at (four_at_lem v i (j - i) (omega arith))
 
-pub holds_at : (w v : List ℕ) (a b : ℕ) → a ≡ b → Holds w v a → Holds w v b
-holds_at w v a b e h = rw (sym e) h
-
 -- the window after its next four words were put in
 pub holds_next : (u w v x : List ℕ) (i p : ℕ) → Holds w v i → length w ≡ 16 → i % 4 ≡ 0 → x ≡ four_at v i → p ≡ i % 16 → u ≡ sets w p x
     → (length u ≡ 16) × Holds u v (i + 4)
 holds_next u w v x i p h l g e d s = rw (s, d) (length-sets w (i % 16) x ∙ l, holds_put w v x i h l g e)
-
--- ---- the inner function
--- steps past the whitening are rounds
-pub step_round : (j : ℕ) (x y key : List ℕ) → (j ≡ 0 → ⊥) → step_of j x y key ≡ round_of y key
-unfolding step_of
-step_round zero x y key h = absurd (h refl)
-step_round (suc j) x y key h = refl
-
--- a step more
-pub steps_more : (j : ℕ) (w : List ℕ) (i : ℕ) (x : List ℕ) → steps_of (j + 1) w i x ≡ step_of j x (steps_of j w i x) (four_at w (i + 4 * j))
-unfolding steps_of
-steps_more j w i x = rw add-one
-
--- three steps and a round under zero are the whole
-pub steps_inner : (w : List ℕ) (i : ℕ) (x : List ℕ) → round_of (steps_of 3 w i x) zero4 ≡ inner_of 2 w i x
-unfolding steps_of step_of inner_of times
-steps_inner w i x =
-    let a : i + 0 ≡ i = omega arith in
-    let b : i + 4 + 0 ≡ i + 4 = omega arith in
-    let c : i + 4 + 4 ≡ i + 8 = omega arith in
-    rw (a, b, c)

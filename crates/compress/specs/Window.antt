@@ -1,21 +1,32 @@
--- The small family's words through a window of sixteen, and its cipher's steps: what private functions' contracts cite. Of the public ones `small` cites
+-- The small family's words through a window of sixteen: what private functions' contracts cite. Of the public ones `small` cites
 -- `small_words` and `halves_in`, and `feed` `halves_at`; a reader of the others needs none of it.
-use Rattle.std.specs.Prelude.{ℕ, zero, suc, ◌+◌, ◌-◌, ◌*◌, ◌%◌, ◌≤◌, ◌<◌, ◌≡◌, List, [], ◌∷◌, ◌++◌, get_or, drop}
+use Rattle.std.specs.Prelude.{ℕ, ◌+◌, ◌-◌, ◌%◌, ◌≤◌, ◌<◌, ◌≡◌, List, [], ◌∷◌, ◌++◌, get_or, drop}
+use Rattle.std.specs.Coded.{Coded-set, coded_ℕ}
 use Rattle.std.specs.Int.Bits.{bit_xor}
 use Rattle.family.specs.declared.Family.TheVariants.{Small}
 use Rattle.family.specs.Family.{block_words, chain_words}
 use Rattle.counter.specs.declared.Counter.{Counter}
 use Rattle.words.specs.Words.{four_at, xor4, round_of, zero4, words_of}
 use Rattle.compress.specs.declared.cipher.Halves.{Halves}
+use Rattle.compress.specs.declared.inputs.Inputs.{Inputs}
 use Rattle.compress.specs.Expansion.{expand_of}
 
 -- the words that the window goes over
 abbrev pub small_words : List ℕ → Counter → List ℕ → List ℕ
 small_words block c salt = expand_of Small block c (words_of 16 salt)
 
+-- the same, of what is handed on together
+abbrev pub made_of : Inputs → List ℕ
+made_of s = small_words s.block.now s.counter s.salt.now
+
 -- The window holds the last sixteen (a block's words) of a list's first i words: word j stands at place j % 16.
 unfoldable pub Holds : List ℕ → List ℕ → ℕ → Type 0
 Holds w v i = (j : ℕ) → j < i → i ≤ j + block_words Small → get_or w (j % block_words Small) 0 ≡ get_or v j 0
+
+-- that is a fact
+pub Holds-prop : (w v : List ℕ) (i : ℕ) → IsProp (Holds w v i)
+unfolding Holds
+Holds-prop w v i f g = λ t j a b. Coded-set coded_ℕ (get_or w (j % block_words Small) 0) (get_or v j 0) (f j a b) (g j a b) t
 
 -- the words i-15, i-14, i-13 and i-16, of the four from i-16 on
 abbrev pub taps_from : List ℕ → List ℕ
@@ -30,16 +41,6 @@ unfoldable pub linear_from : List ℕ → List ℕ → List ℕ
 linear_from far last =
     let first = bit_xor (get_or far 0 0) (get_or last 1 0) in
     first ∷ bit_xor (get_or far 1 0) (get_or last 2 0) ∷ bit_xor (get_or far 2 0) (get_or last 3 0) ∷ bit_xor (get_or far 3 0) first ∷ []
-
--- F's step j over x, y being where it stands: whitening, then a round under each further subkey
-unfoldable pub step_of : ℕ → List ℕ → List ℕ → List ℕ → List ℕ
-step_of zero x y key = xor4 x key
-step_of (suc j) x y key = round_of y key
-
--- F's first j steps, with the expanded words from place i
-unfoldable pub steps_of : ℕ → List ℕ → ℕ → List ℕ → List ℕ
-steps_of zero w i x = zero4
-steps_of (suc j) w i x = step_of j x (steps_of j w i x) (four_at w (i + 4 * j))
 
 -- what the cipher leaves where the chain stood: its two halves, and the words past them as they were
 abbrev pub halves_in : Halves → List ℕ → List ℕ

@@ -6,6 +6,7 @@ use counter::Counter;
 use family::Family;
 
 // Four words, made for the places from i on, with what enters there of the counter. No group begins at another i than a multiple of 4.
+#[tactic(auto, unfolding(crate::specs::Expansion::entered_of, crate::specs::Expansion::counts_of, crate::specs::Expansion::enters, crate::specs::Expansion::places))]
 pub fn entered(family: Family, i: usize, c: Counter, x: [u32; 4]) -> [u32; 4]
     ensures { result ≡ entered_of family c i x }
 {

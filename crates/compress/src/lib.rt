@@ -6,9 +6,10 @@ ghost use Rattle.std.specs.Prelude.{◌≡◌};
 ghost use Rattle.compress.specs.Compression.{small_output};
 ghost use Rattle.compress.specs.Window.{halves_at};
 
+mod bytes;
 mod cipher;
 mod entering;
-mod quads;
+mod inputs;
 mod window;
 
 pub use cipher::{Halves, Quarters, small};
@@ -18,10 +19,10 @@ pub use entering::entered;
 pub fn feed(chain: &mut [u32; 16], h: &[u32; 16])
     ensures { chain.new ≡ small_output chain.old (halves_at 0 h.now) }
 {
-    let left = words::xored(quads::quad(&*chain, 0), quads::quad(h, 0));
-    let right = words::xored(quads::quad(&*chain, 4), quads::quad(h, 4));
-    quads::put(chain, 0, left);
-    quads::put(chain, 4, right);
-    quads::put(chain, 8, [0, 0, 0, 0]);
-    quads::put(chain, 12, [0, 0, 0, 0]);
+    let left = words::xored(words::quad(&chain[0..4]), words::quad(&h[0..4]));
+    let right = words::xored(words::quad(&chain[4..8]), words::quad(&h[4..8]));
+    words::put(&mut chain[0..4], left);
+    words::put(&mut chain[4..8], right);
+    words::put(&mut chain[8..12], [0, 0, 0, 0]);
+    words::put(&mut chain[12..16], [0, 0, 0, 0]);
 }

@@ -4,10 +4,14 @@
 ghost use Rattle.std.specs.Prelude.{◌≡◌, ◌+◌, ◌*◌, ◌^◌, ◌<◌, ◌≤◌};
 ghost use Rattle.counter.specs.Counter.{number_of, counter_of};
 
+// How many values a word of the counter has.
+const WORD: u64 = 1 << 32;
+
 #[derive(Clone, Copy)]
 pub struct Counter(pub u32, pub u32, pub u32, pub u32);
 
-// One word of a counter and what it carries into the next.
+// One word of a counter and what it carries into the next. A wrapping add, and not `overflowing_add` or a wider sum: document 01 has the
+// carry found by comparison with the old word.
 #[derive(Clone, Copy)]
 struct Sum {
     word: u32,
@@ -17,17 +21,10 @@ struct Sum {
 fn add_word(word: u32, more: u32) -> Sum
     ensures { (result.word + 2 ^ 32 * result.carry ≡ word + more) × (result.word < 2 ^ 32) × (result.carry ≤ 1) }
 {
-    let sum = std::num::wrapping_add_u32(word, more);
-    if sum < word {
-        Sum {
-            word: sum,
-            carry: 1,
-        }
-    } else {
-        Sum {
-            word: sum,
-            carry: 0,
-        }
+    let sum = word.wrapping_add(more);
+    Sum {
+        word: sum,
+        carry: u32::from(sum < word),
     }
 }
 
@@ -36,8 +33,8 @@ impl Counter {
     pub fn of(bits: u64) -> Counter
         ensures { result ≡ counter_of bits }
     {
-        let low = (bits % 4294967296) as u32;
-        let high = (bits / 4294967296 % 4294967296) as u32;
+        let low = (bits % WORD) as u32;
+        let high = (bits / WORD % WORD) as u32;
         Counter(low, high, 0, 0)
     }
 

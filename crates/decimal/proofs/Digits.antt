@@ -5,26 +5,9 @@ use mathlib.Core.List.{List, [], ◌∷◌}
 use Prim.Native.Nat.{ℕ, ◌+◌, ◌*◌, ◌-◌, ◌≤◌, ◌<◌}
 use native.Mathlib.Omega.{arith}
 use native.Mathlib.Numerals.{add-one}
-use lib.Dec.{leb}
 use lib.ListN.{length, drop, get_or, drop_of_length-le}
 use lib.Seq.{drop-cons}
-use borrow.Author.Tests.{leb-true, le-leb, lt-leb}
-use Rattle.answers.proofs.Tests.{and_left, and_right}
 use Rattle.decimal.specs.Decimal.{is_digit, digits, spelled}
-
-module _ (c : ℕ) where
-  pub below : c < 48 → false ≡ is_digit c
-  unfolding is_digit
-  below h = rw (lt-leb 48 c h)
-
-  pub from_zero : 48 ≤ c → leb c 57 ≡ is_digit c
-  unfolding is_digit
-  from_zero h = rw (le-leb 48 c h)
-
-  pub digit_bounds : is_digit c ≡ true → (48 ≤ c) × (c ≤ 57)
-  unfolding is_digit
-  digit_bounds h =
-      (leb-true 48 c (and_left (leb 48 c) (leb c 57) h), leb-true c 57 (and_right (leb 48 c) (leb c 57) h))
 
 -- more digits make no number smaller
 spelled_least : (n : ℕ) (text : List ℕ) → n ≤ spelled n text

@@ -1,7 +1,5 @@
 -- Numbers spelled in decimal, the most significant digit first, up to 65535.
-use Rattle.std.specs.Prelude.{Bool, true, not, cond, ◌&&◌, List, [], ◌∷◌, ℕ, ◌+◌, ◌*◌, ◌-◌, eqb, leb, ltb, length}
-use Rattle.decimal.specs.declared.Number.{Number}
-use Rattle.decimal.specs.declared.Number.TheVariants.{Is, Bad}
+use Rattle.std.specs.Prelude.{Option, Some, None, Bool, true, not, cond, ◌&&◌, List, [], ◌∷◌, ℕ, ◌+◌, ◌*◌, ◌-◌, eqb, leb, ltb, length}
 
 -- the characters 0 to 9
 unfoldable pub is_digit : ℕ → Bool
@@ -17,6 +15,6 @@ unfoldable pub spelled : ℕ → List ℕ → ℕ
 spelled n [] = n
 spelled n (c ∷ cs) = spelled (10 * n + (c - 48)) cs
 
--- no digit, another character, or a number over 65535 is bad; zeros in front change nothing
-unfoldable pub number_of : List ℕ → Number
-number_of text = cond (eqb (length text) 0) Bad (cond (not (digits text)) Bad (cond (ltb 65535 (spelled 0 text)) Bad (Is (spelled 0 text))))
+-- no digit, another character, or a number over 65535 is none; zeros in front change nothing
+unfoldable pub number_of : List ℕ → Option ℕ
+number_of text = cond (eqb (length text) 0) None (cond (not (digits text)) None (cond (ltb 65535 (spelled 0 text)) None (Some (spelled 0 text))))

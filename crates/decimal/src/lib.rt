@@ -2,43 +2,21 @@
 #![tactic(auto)]
 
 ghost use Rattle.std.specs.Prelude.{◌≡◌};
-ghost use Rattle.decimal.specs.Decimal.{is_digit, number_of};
+ghost use Rattle.decimal.specs.Decimal.{number_of};
 
-// What 16 bits hold; or no number, or one over 65535.
-#[derive(Clone, Copy)]
-pub enum Number {
-    Is(u16),
-    Bad,
-}
-
-fn is_digit(b: u8) -> bool
-    ensures { result ≡ is_digit b }
-{
-    if b < b'0' {
-        return false;
-    }
-    b <= b'9'
-}
-
-// Reads a number from its spelling.
-pub fn read(text: &[u8]) -> Number
+// Reads a number from its spelling: None for what is no number or is over 65535. Digits alone are taken, while `parse` takes a sign too.
+pub fn read(text: &[u8]) -> Option<u16>
     ensures { result ≡ number_of text.now }
 {
-    if text.len() == 0 {
-        return Number::Bad;
+    if text.is_empty() {
+        return None;
     }
-    let mut n: u32 = 0;
-    let mut i = 0;
-    while i < text.len() {
-        let c = text[i];
-        if !is_digit(c) {
-            return Number::Bad;
+    let mut n: u16 = 0;
+    for c in text {
+        if !c.is_ascii_digit() {
+            return None;
         }
-        n = 10 * n + (c - b'0') as u32;
-        if n > 65535 {
-            return Number::Bad;
-        }
-        i += 1;
+        n = n.checked_mul(10)?.checked_add(u16::from(*c - b'0'))?;
     }
-    Number::Is(n as u16)
+    Some(n)
 }

@@ -42,8 +42,8 @@ module _ (s : State) (ok : Sound s) (full : length s.held ≡ 128) where
   length_so_far : (xs : List ℕ) → length (held_of s ++ xs) ≡ s.covered.0 % b + length xs
   length_so_far xs = omega (arith, length-append (held_of s) xs, held_length s full)
 
-  pub mid_start : {size : ℕ} {counter : Counter} → size ≡ b → counter ≡ counter_of (8 * (s.covered.0 - s.covered.0 % size))
-      → Mid s [] s.chain s.compressed s.held (s.covered.0 % size) counter
+  pub mid_start : {rest : ℕ} {counter : Counter} → rest ≡ s.covered.0 % b → counter ≡ counter_of (8 * (s.covered.0 - rest))
+      → Mid s [] s.chain s.compressed s.held rest counter
   unfolding whole_blocks chain_over
   mid_start e k =
       let z : 0 * b ≡ 0 = omega arith in

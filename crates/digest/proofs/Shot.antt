@@ -8,7 +8,7 @@ use borrow.Author.Tests.{not-false, le-ltb}
 use Rattle.family.specs.Family.{family_of}
 use Rattle.answers.specs.declared.refusal.Refusal.{Refusal}
 use Rattle.answers.specs.declared.refusal.Refusal.TheVariants.{DigestLength, SaltSize}
-use Rattle.answers.specs.declared.refusal.Answer.TheVariants.{Accepted}
+use Rattle.std.specs.Prelude.{Ok}
 use Rattle.answers.specs.Refusal.{judged}
 use Rattle.answers.proofs.Judged.{test_passed}
 use Rattle.bits.specs.declared.LastBits.{LastBits}
@@ -20,12 +20,12 @@ use Rattle.finishing.specs.Finish.{finish_answer, finish_of, finish_buffer}
 use Rattle.digest.proofs.Cuts.{state_consistent, state_digest_lem, state_count}
 
 -- What is known where a call of two tests is accepted.
-pub passed : (a t : Bool) (r r' : Refusal) → judged ((not a, r) ∷ (t, r') ∷ []) ≡ Accepted → (a ≡ true) × (t ≡ false)
+pub passed : (a t : Bool) (r r' : Refusal) → judged ((not a, r) ∷ (t, r') ∷ []) ≡ Ok tt → (a ≡ true) × (t ≡ false)
 passed a t r r' h =
     let p = test_passed (not a) r ((t, r') ∷ []) h in
     (not-false a p.0, (test_passed t r' [] p.1).0)
 
-module _ (m : ℕ) (salt : List ℕ) (h : begin_answer m salt ≡ Accepted) where
+module _ (m : ℕ) (salt : List ℕ) (h : begin_answer m salt ≡ Ok tt) where
   pub begin_accepted : (allowed m ≡ true) × (salt_fits (family_of m) salt ≡ true)
   unfolding begin_answer
   begin_accepted =
@@ -46,7 +46,7 @@ module _ (m : ℕ) (salt : List ℕ) (h : begin_answer m salt ≡ Accepted) wher
       same_answer = rw (consistent, begin_accepted.0, begin_accepted.1, le-ltb limit (length xs) room)
 
       -- Finishing the state of xs with last bits reports and writes what one-shot does for xs and those bits.
-      pub finish_one_shot : ((finish_of (state_of m salt xs) last out).report ≡ one_shot_of m salt (message_of xs last) out)
+      pub finish_one_shot : ((finish_of (state_of m salt xs) last out).answer ≡ one_shot_of m salt (message_of xs last) out)
           × (finish_buffer (state_of m salt xs) last out ≡ one_shot_buffer m salt (message_of xs last) out)
       unfolding finish_of one_shot_of finish_buffer one_shot_buffer state_of
       finish_one_shot = (rw (same_answer, state_count m salt xs last), rw (same_answer, state_digest_lem m salt xs last))

@@ -4,12 +4,12 @@ use Rattle.std.specs.Prelude.{Bool, not, ◌||◌, List, [], ◌∷◌, ℕ, ◌
 use Rattle.family.specs.declared.Family.{Family}
 use Rattle.family.specs.Family.{family_of, salt_bytes}
 use Rattle.answers.specs.declared.refusal.Refusal.TheVariants.{DigestLength, SaltSize, MessageLimit, StateInconsistent, BufferShort, BitsUnfit}
-use Rattle.answers.specs.declared.refusal.Answer.{Answer}
+use Rattle.answers.specs.Refusal.{Answer}
 use Rattle.bits.specs.Bits.{last_fits, digest_bytes}
 use Rattle.bits.specs.Message.{Message}
 use Rattle.state.specs.declared.State.{State}
-use Rattle.digest.specs.declared.calls.Step.{Step}
-use Rattle.reports.specs.declared.Report.{Report}
+use Rattle.answers.specs.declared.handed.Handed.{Handed}
+use Rattle.reports.specs.Report.{Report}
 use Rattle.answers.specs.Refusal.{judged, if_accepted}
 use Rattle.reports.specs.Report.{reported}
 use Rattle.answers.specs.Written.{written}
@@ -21,6 +21,10 @@ use Rattle.digest.specs.Running.{state_of, absorbed}
 -- salt empty or of the family's size
 unfoldable pub salt_fits : Family → List ℕ → Bool
 salt_fits f salt = eqb (length salt) 0 || eqb (length salt) (salt_bytes f)
+
+-- an answer, and the state handed back
+abbrev pub Step : Type 0
+Step = Handed (Unit {0}) State
 
 -- begin: 1, 2
 unfoldable pub begin_answer : ℕ → List ℕ → Answer

@@ -1,32 +1,28 @@
-// Begin, add and one-shot. Each tests in the documents' order, and a refusal changes nothing. Of one-shot's tests the first two stand here, the others in `finishing::hash`.
-ghost use Rattle.std.specs.Prelude.{◌≡◌, true, cond, [], ◌+◌, ◌/◌, ◌≤◌, ◌<◌, min, eqb, length};
+// Begin, add and one-shot. Each tests in the documents' order, and a refusal changes nothing. A call hands its own arguments to the function that tests them:
+// to gather them in a struct for that one step would be no plainer. Of one-shot's tests the first two stand here, the others in `finishing::hash`.
+ghost use Rattle.std.specs.Prelude.{◌≡◌, true, cond, [], ◌+◌, ◌/◌, ◌≤◌, ◌<◌, eqb, length};
 ghost use Rattle.bits.specs.Message.{message_of};
 ghost use Rattle.state.specs.State.{limit, consistent_of};
 ghost use Rattle.digest.specs.Running.{state_of, absorbed};
-ghost use Rattle.digest.specs.Calls.{salt_fits, begin_of, add_of, one_shot_of, one_shot_buffer};
+ghost use Rattle.answers.specs.Handed.{made_if};
+ghost use Rattle.digest.specs.Calls.{salt_fits, begin_answer, begin_of, add_answer, add_of, one_shot_of, one_shot_buffer};
 
 use crate::bytes;
-use answers::{Answer, Refusal};
+use answers::{Handed, Refusal};
 use bits::LastBits;
 use counter::Counter;
 use family::Family;
-use reports::{Length, Report};
+use reports::{Coverage, Length};
 use state::State;
 
 // An answer, and the state handed back.
-#[derive(Clone, Copy)]
-pub struct Step {
-    pub answer: Answer,
-    pub state: State,
-}
+pub type Step = Handed<(), State>;
 
+#[tactic(auto, unfolding(crate::specs::Calls::salt_fits))]
 fn salt_fits(family: Family, salt: &[u8]) -> bool
     ensures { result ≡ salt_fits family salt.now }
 {
-    if salt.len() == 0 {
-        return true;
-    }
-    salt.len() == family.salt_bytes()
+    salt.is_empty() || salt.len() == family.salt_bytes()
 }
 
 // The state at the start, for an m that is allowed and a salt that fits.
@@ -36,44 +32,35 @@ fn started(form: bool, m: u16, salt: &[u8]) -> State
 {
     let family = Family::of(m);
     let chain = starting::starting_value(form, family, m);
-    let filled = bytes::fill_salt(salt);
     State {
-        family: family,
-        m: m,
-        salt: filled,
-        chain: chain,
+        family,
+        m,
+        salt: bytes::fill_salt(salt),
+        chain,
         covered: Length(0),
         compressed: 0,
         held: [0u8; 128],
     }
 }
 
+// The tests of begin, and the state at the start.
+fn begun(form: bool, m: u16, salt: &[u8]) -> Result<State, Refusal>
+    ensures { result ≡ made_if (begin_answer m salt.now) (state_of m salt.now []) }
+{
+    if !state::is_allowed(m) {
+        return Err(Refusal::DigestLength);
+    }
+    if !salt_fits(Family::of(m), salt) {
+        return Err(Refusal::SaltSize);
+    }
+    Ok(started(form, m, salt))
+}
+
 // Starts a digest of m bits. The salt is empty or of the family's size.
 pub fn begin(form: bool, m: u16, salt: &[u8]) -> Step
     ensures { result ≡ begin_of m salt.now }
 {
-    if !state::is_allowed(m) {
-        return Step {
-            answer: Answer::Refused(Refusal::DigestLength),
-            state: state::zero_state(),
-        };
-    }
-    if !salt_fits(Family::of(m), salt) {
-        return Step {
-            answer: Answer::Refused(Refusal::SaltSize),
-            state: state::zero_state(),
-        };
-    }
-    Step {
-        answer: Answer::Accepted,
-        state: started(form, m, salt),
-    }
-}
-
-fn least(a: usize, b: usize) -> usize
-    ensures { result ≡ min a b }
-{
-    if a <= b { a } else { b }
+    Handed::of(begun(form, m, salt), state::zero_state())
 }
 
 fn reach(covered: Length, more: usize) -> u64
@@ -89,16 +76,11 @@ fn at_once(form: bool, rest: usize, left: usize, size: usize) -> usize
     requires { 0 < size }
     ensures { result ≡ cond form (cond (eqb rest 0) (left / size) 0) 0 }
 {
-    if !form {
-        return 0;
-    }
-    if rest > 0 {
-        return 0;
-    }
-    left / size
+    if form && rest == 0 { left / size } else { 0 }
 }
 
-// Takes the bytes in: a part of a block at a time, or the whole blocks that can be taken at once.
+// Takes the bytes in: a part of a block at a time, or the whole blocks that can be taken at once. A turn takes as many bytes as the turn before left room for,
+// and no range or iterator hands out steps of such sizes.
 fn absorb(form: bool, state: State, bytes: &[u8]) -> State
     requires { (consistent_of state ≡ true) × (state.covered.0 + length bytes.now ≤ limit) }
     ensures { result ≡ absorbed state bytes.now }
@@ -110,7 +92,7 @@ fn absorb(form: bool, state: State, bytes: &[u8]) -> State
     let mut held = state.held;
     let mut compressed = state.compressed;
     let covered = state.covered;
-    let mut rest = (covered.0 % (size as u64)) as usize;
+    let mut rest = state::held_bytes(family, covered);
     let mut counter = Counter::of(8 * (covered.0 - rest as u64));
     let bits = (8 * size) as u32;
     let mut i = 0;
@@ -124,9 +106,8 @@ fn absorb(form: bool, state: State, bytes: &[u8]) -> State
             compressed += n as u64;
             i = end;
         } else {
-            let count = least(size - rest, bytes.len() - i);
-            let more = bytes::take_in(held, rest, bytes, i, count);
-            held = more;
+            let count = (size - rest).min(bytes.len() - i);
+            held = bytes::take_in(held, rest, &bytes[i..i + count]);
             rest += count;
             i += count;
             if rest == size {
@@ -139,53 +120,52 @@ fn absorb(form: bool, state: State, bytes: &[u8]) -> State
             }
         }
     }
-    let m = state.m;
-    let reached = reach(covered, bytes.len());
     State {
-        family: family,
-        m: m,
-        salt: salt,
-        chain: chain,
-        covered: Length(reached),
-        compressed: compressed,
-        held: held,
+        chain,
+        covered: Length(reach(covered, bytes.len())),
+        compressed,
+        held,
+        ..state
     }
+}
+
+// The tests of add, and the state that has taken the bytes in.
+fn added(form: bool, state: State, bytes: &[u8]) -> Result<State, Refusal>
+    ensures { result ≡ made_if (add_answer state bytes.now) (absorbed state bytes.now) }
+{
+    if !state::consistent(state) {
+        return Err(Refusal::StateInconsistent);
+    }
+    if bytes.len() as u64 > state::LIMIT - state.covered.0 {
+        return Err(Refusal::MessageLimit);
+    }
+    Ok(absorb(form, state, bytes))
 }
 
 // Adds bytes to a digest.
 pub fn add(form: bool, state: State, bytes: &[u8]) -> Step
     ensures { result ≡ add_of state bytes.now }
 {
-    if !state::consistent(state) {
-        return Step {
-            answer: Answer::Refused(Refusal::StateInconsistent),
-            state: state,
-        };
-    }
-    let covered = state.covered;
-    if bytes.len() as u64 > state::LIMIT - covered.0 {
-        return Step {
-            answer: Answer::Refused(Refusal::MessageLimit),
-            state: state,
-        };
-    }
-    Step {
-        answer: Answer::Accepted,
-        state: absorb(form, state, bytes),
-    }
+    Handed::of(added(form, state, bytes), state)
 }
 
 // The digest of one message: whole bytes, and last bits behind them.
-pub fn one_shot(m: u16, salt: &[u8], bytes: &[u8], last: LastBits, out: &mut [u8]) -> Report
+pub fn one_shot(
+    m: u16,
+    salt: &[u8],
+    bytes: &[u8],
+    last: LastBits,
+    out: &mut [u8],
+) -> Result<Coverage, Refusal>
     ensures result { result ≡ one_shot_of m salt.now (message_of bytes.now last) out.old }
     ensures buffer { out.new ≡ one_shot_buffer m salt.now (message_of bytes.now last) out.old }
 {
     if !state::is_allowed(m) {
-        return Report::Refused(Refusal::DigestLength);
+        return Err(Refusal::DigestLength);
     }
     let family = Family::of(m);
     if !salt_fits(family, salt) {
-        return Report::Refused(Refusal::SaltSize);
+        return Err(Refusal::SaltSize);
     }
     let filled = bytes::fill_salt(salt);
     let start = starting::starting_value(form::TABLES, family, m);

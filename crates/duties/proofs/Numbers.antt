@@ -7,14 +7,13 @@ use lib.Dec.{ltb}
 use lib.ListN.{length}
 use Rattle.answers.specs.declared.refusal.Refusal.{Refusal}
 use Rattle.answers.specs.declared.refusal.Refusal.TheVariants.{SaltSize, StateInconsistent, BufferShort, SectionCount, EventRegister}
-use Rattle.answers.specs.declared.refusal.Answer.{Answer}
-use Rattle.answers.specs.declared.refusal.Answer.TheVariants as answer
+use Rattle.answers.specs.Refusal.{Answer}
+use Rattle.std.specs.Prelude.{Result, Ok, Err}
 use Rattle.log_answers.specs.declared.reading.Layout.{Layout}
-use Rattle.log_answers.specs.declared.reading.Reading.{Reading}
-use Rattle.log_answers.specs.declared.reading.Reading.TheVariants as reading
+use Rattle.log_answers.specs.declared.reading.Fault.{Fault}
 use Rattle.answers.specs.Refusal.{refusal_number, answer_number, judged}
 use Rattle.reports.specs.Report.{report_number, reported}
-use Rattle.log_answers.specs.Reading.{reading_number}
+use Rattle.log_answers.specs.Reading.{fault, reading_number}
 use Rattle.answers.specs.Written.{written_number, written_if}
 use Rattle.tag_answers.specs.Tagged.{tagged_number, tagged}
 use Rattle.tag_answers.specs.TagCheck.{tag_check_number, tag_checked}
@@ -59,21 +58,21 @@ both_among none b = b
 both_among (more h a) b = more h (both_among a b)
 
 pub written_number_lem : (a : Answer) (n : ℕ) → written_number (written_if a n) ≡ answer_number a
-written_number_lem answer.Accepted n = refl
-written_number_lem (answer.Refused r) n = refl
+written_number_lem (Ok u) n = refl
+written_number_lem (Err r) n = refl
 
 pub reported_number : (a : Answer) (n c k : ℕ) → report_number (reported a n c k) ≡ answer_number a
-reported_number answer.Accepted n c k = refl
-reported_number (answer.Refused r) n c k = refl
+reported_number (Ok u) n c k = refl
+reported_number (Err r) n c k = refl
 
 pub tagged_number_lem : (a : Answer) (n : ℕ) → tagged_number (tagged a n) ≡ answer_number a
-tagged_number_lem answer.Accepted n = refl
-tagged_number_lem (answer.Refused r) n = refl
+tagged_number_lem (Ok u) n = refl
+tagged_number_lem (Err r) n = refl
 
 pub tag_checked_number : (a : Answer) (right : Bool) → tag_check_number (tag_checked a right) ≡ answer_number a
-tag_checked_number answer.Accepted true = refl
-tag_checked_number answer.Accepted false = refl
-tag_checked_number (answer.Refused r) right = refl
+tag_checked_number (Ok u) true = refl
+tag_checked_number (Ok u) false = refl
+tag_checked_number (Err r) right = refl
 
 -- ---- a log's writing
 pub write_listed : (salt starts events : List ℕ) (wish : Bool) (room : ℕ) → Memᴰ (answer_number (write_answer salt starts events wish room)) (0 ∷ 2 ∷ 7 ∷ 8 ∷ 5 ∷ [])
@@ -95,9 +94,9 @@ write_listed salt starts events wish room =
 abbrev pub log_numbers : List ℕ
 log_numbers = 6 ∷ 7 ∷ 8 ∷ []
 
-pub data Read : Reading → Type 0 where
-  whole : {at : Layout} → Read (reading.Whole at)
-  refused : {r : Refusal} {o : ℕ} → Memᴰ (refusal_number r) log_numbers → Read (reading.Refused r o)
+pub data Read : Result Layout Fault → Type 0 where
+  whole : {at : Layout} → Read (Ok at)
+  refused : {r : Refusal} {o : ℕ} → Memᴰ (refusal_number r) log_numbers → Read (Err (fault r o))
 
 six : Memᴰ 6 log_numbers
 six = mathlib.Core.List.Memᴰ.head refl
@@ -124,12 +123,12 @@ bad_listed (steps.extra p h) = six
 pub reading_read : (log : List ℕ) → Read (reading_of log)
 reading_read log = by (reading_of log) refl
   where
-    by : (x : Reading) → reading_of log ≡ x → Read x
-    by (reading.Whole at) e = whole
-    by (reading.Refused r o) e = refused (bad_listed (refused_bad log r o e))
+    by : (x : Result Layout Fault) → reading_of log ≡ x → Read x
+    by (Ok at) e = whole
+    by (Err f) e = refused (bad_listed (refused_bad log f.refusal f.offset e))
 
 -- its number is 0 or one of these
-pub reading_listed : {x : Reading} → Read x → Memᴰ (reading_number x) (0 ∷ log_numbers)
+pub reading_listed : {x : Result Layout Fault} → Read x → Memᴰ (reading_number x) (0 ∷ log_numbers)
 reading_listed whole = mathlib.Core.List.Memᴰ.head refl
 reading_listed (refused h) = mathlib.Core.List.Memᴰ.tail h
 

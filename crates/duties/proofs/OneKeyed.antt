@@ -6,8 +6,8 @@ use Prim.Native.Nat.{ℕ, ◌+◌}
 use lib.Dec.{ltb}
 use lib.ListN.{length}
 use Rattle.answers.specs.declared.refusal.Refusal.TheVariants.{DigestLength, MessageLimit, StateInconsistent, BufferShort, KeyLong}
-use Rattle.answers.specs.declared.refusal.Answer.{Answer}
-use Rattle.answers.specs.declared.refusal.Answer.TheVariants as answer
+use Rattle.answers.specs.Refusal.{Answer}
+use Rattle.std.specs.Prelude.{Ok, Err}
 use Rattle.tag_answers.specs.Tagged.{tagged_number, tagged_covered, tagged}
 use Rattle.tag_answers.specs.TagCheck.{tag_check_number, tag_check_yes, tag_checked}
 use Rattle.fields.specs.Fields.{same}
@@ -21,13 +21,13 @@ use Rattle.duties.proofs.Numbers.{judged_listed, tagged_number_lem, tag_checked_
 use Rattle.duties.proofs.One.{not_accepted}
 
 not_tagged : (a : Answer) (n : ℕ) → (tagged_number (tagged a n) ≡ 0 → ⊥) → tagged_covered (tagged a n) ≡ 0
-not_tagged answer.Accepted n h = absurd (h refl)
-not_tagged (answer.Refused r) n h = refl
+not_tagged (Ok u) n h = absurd (h refl)
+not_tagged (Err r) n h = refl
 
 not_compared : (a : Answer) (right : Bool) → (tag_check_number (tag_checked a right) ≡ 0 → ⊥) → tag_check_yes (tag_checked a right) ≡ false
-not_compared answer.Accepted true h = absurd (h refl)
-not_compared answer.Accepted false h = absurd (h refl)
-not_compared (answer.Refused r) right h = refl
+not_compared (Ok u) true h = absurd (h refl)
+not_compared (Ok u) false h = absurd (h refl)
+not_compared (Err r) right h = refl
 
 -- Every keyed call ends with a listed result on every input, spoiled states included.
 pub every_keyed_call_listed : (c : AskedKeyed) → Memᴰ (keyed_answered c) (keyed_listed c)

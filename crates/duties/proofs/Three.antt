@@ -5,7 +5,7 @@ use mathlib.Core.List.{List, map, ◌++◌}
 use Prim.Native.Nat.{ℕ, ◌≤◌}
 use lib.ListN.{length, drop, length-map}
 use Rattle.family.specs.Family.{family_of}
-use Rattle.answers.specs.declared.refusal.Answer.TheVariants.{Accepted}
+use Rattle.std.specs.Prelude.{Ok}
 use Rattle.reports.specs.Report.{report_number, report_covered, report_bits, report_blocks}
 use Rattle.bits.specs.declared.LastBits.{LastBits}
 use Rattle.bits.specs.Bits.{last_fits, digest_bytes}
@@ -29,7 +29,7 @@ use Rattle.duties.proofs.Two.{digest_right, counts_right}
 
 -- From an accepted start, after any moves: adds in any cuts, empty and refused ones too, finishes with any last bits, saves, and carries (a form saved, and
 -- what is read back gone on with).
-module _ (m : ℕ) (salt : List ℕ) (start : begin_answer m salt ≡ Accepted) (moves : List Move) where
+module _ (m : ℕ) (salt : List ℕ) (start : begin_answer m salt ≡ Ok tt) (moves : List Move) where
   abbrev s : State
   s = after_moves (begin_of m salt).state moves
 
@@ -50,20 +50,20 @@ module _ (m : ℕ) (salt : List ℕ) (start : begin_answer m salt ≡ Accepted) 
     within = bits_within (length xs) last.count (moves_length m salt start moves) (at_most_7 last fits)
 
     module _ (out : List ℕ) (room : digest_bytes m ≤ length out) where
-      one_shot_lem : ((finish_of s last out).report ≡ one_shot_of m salt x out) × (finish_buffer s last out ≡ one_shot_buffer m salt x out)
+      one_shot_lem : ((finish_of s last out).answer ≡ one_shot_of m salt x out) × (finish_buffer s last out ≡ one_shot_buffer m salt x out)
       one_shot_lem = moves_finish m salt start moves last out
 
       right : (report_number (one_shot_of m salt x out) ≡ 0) × (one_shot_buffer m salt x out ≡ digest_of (family_of m) m (fill 64 salt) x ++ drop (digest_bytes m) out)
       right = digest_right m salt x out (begin_accepted m salt start).0 (begin_accepted m salt start).1 within fits room
 
       -- Its digest is demand 2's for them.
-      pub digest_joined : (report_number (finish_of s last out).report ≡ 0)
+      pub digest_joined : (report_number (finish_of s last out).answer ≡ 0)
           × (finish_buffer s last out ≡ digest_of (family_of m) m (fill 64 salt) x ++ drop (digest_bytes m) out)
       digest_joined = (rw one_shot_lem.0 right.0, one_shot_lem.1 ∙ right.1)
 
       -- The digest reports how many bytes and bits it covers and how many blocks it compressed, start-up calls not counted.
-      pub coverage_reported : (report_covered (finish_of s last out).report ≡ length xs) × (report_bits (finish_of s last out).report ≡ last.count)
-          × (report_blocks (finish_of s last out).report ≡ length (handed (family_of m) m x))
+      pub coverage_reported : (report_covered (finish_of s last out).answer ≡ length xs) × (report_bits (finish_of s last out).answer ≡ last.count)
+          × (report_blocks (finish_of s last out).answer ≡ length (handed (family_of m) m x))
       unfolding handed
       coverage_reported =
           let ok = begin_accepted m salt start in

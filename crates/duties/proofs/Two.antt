@@ -6,9 +6,8 @@ use Prim.Native.Nat.{ℕ, ◌*◌, ◌≤◌}
 use lib.ListN.{length, drop}
 use borrow.Author.Tests.{le-ltb}
 use Rattle.family.specs.Family.{family_of}
-use Rattle.answers.specs.declared.refusal.Answer.TheVariants.{Accepted}
+use Rattle.std.specs.Prelude.{Ok}
 use Rattle.log_answers.specs.declared.reading.Layout.{Layout}
-use Rattle.log_answers.specs.declared.reading.Reading.TheVariants.{Whole}
 use Rattle.reports.specs.Report.{report_number, report_covered, report_bits, report_blocks}
 use Rattle.log_answers.specs.Checked.{check_number}
 use Rattle.bits.specs.Bits.{last_fits, digest_bytes}
@@ -31,7 +30,7 @@ use Rattle.bootlog.proofs.Recorded.{recorded}
 -- bytes, m/8 rounded up, become the digest.
 module _ (m : ℕ) (salt : List ℕ) (x : Message) (out : List ℕ) (ok : allowed m ≡ true) (fits : salt_fits (family_of m) salt ≡ true)
     (within : bit_length x ≤ bit_limit) (bits_fit : last_fits x.last ≡ true) (room : digest_bytes m ≤ length out) where
-  accepted : one_shot_answer m salt x out ≡ Accepted
+  accepted : one_shot_answer m salt x out ≡ Ok tt
   unfolding one_shot_answer
   accepted = rw (ok, fits, le-ltb limit (length x.bytes) (within_bits (length x.bytes) x.last.count within), bits_fit, le-ltb (length out) (digest_bytes m) room)
 
@@ -46,7 +45,7 @@ module _ (m : ℕ) (salt : List ℕ) (x : Message) (out : List ℕ) (ok : allowe
 
 -- Registers worked out from a log are those that the rule gives, event by event: `replayed` replaces one register an event. Each stands in its record, with
 -- the number of the log's events that extended it behind it.
-module _ (log out : List ℕ) (at : Layout) (e : reading_of log ≡ Whole at) (room : 34 * at.registers ≤ length out) where
+module _ (log out : List ℕ) (at : Layout) (e : reading_of log ≡ Ok at) (room : 34 * at.registers ≤ length out) where
   pub registers_right : (check_number (check_of log (length out)) ≡ 0)
       × (check_buffer log out
       ≡ records_of (replayed (salt_in_effect (salt_of log at)) (event_list at.events (events_of log at)) (starts_of log at)) (event_list at.events (events_of log at)) at.registers

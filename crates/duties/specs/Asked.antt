@@ -1,7 +1,7 @@
 -- Every call of the digest, of its saved forms and of the boot log with what it is given: what it answers, and what a refusal leaves (the letter's first duty).
 use Rattle.std.specs.Prelude.{◌≡◌, Bool, List, [], ◌∷◌, ℕ, length}
 use Rattle.log_answers.specs.declared.checked.Verdict.TheVariants.{NoClaim}
-use Rattle.reports.specs.declared.Report.{Report}
+use Rattle.reports.specs.Report.{Report}
 use Rattle.answers.specs.Refusal.{answer_number}
 use Rattle.reports.specs.Report.{report_number, report_covered, report_bits, report_blocks}
 use Rattle.log_answers.specs.Reading.{reading_number, reading_registers, reading_events}
@@ -39,9 +39,9 @@ pub data Asked : Type 0 where
 unfoldable pub answered : Asked → ℕ
 answered (begin m salt) = answer_number (begin_of m salt).answer
 answered (add s xs) = answer_number (add_of s xs).answer
-answered (finish s last out) = report_number (finish_of s last out).report
+answered (finish s last out) = report_number (finish_of s last out).answer
 answered (one_shot m salt x out) = report_number (one_shot_of m salt x out)
-answered (save s out) = written_number (save_of s out).written
+answered (save s out) = written_number (save_of s out).answer
 answered (load form) = answer_number (load_of form).answer
 answered (read log) = reading_number (reading_of log)
 answered (check log out) = check_number (check_of log (length out))
@@ -97,9 +97,9 @@ NothingReported r = (report_covered r ≡ 0) × (report_bits r ≡ 0) × (report
 unfoldable pub ValuesZero : Asked → Type 0
 ValuesZero (begin m salt) = Unit {0}
 ValuesZero (add s xs) = Unit {0}
-ValuesZero (finish s last out) = NothingReported (finish_of s last out).report
+ValuesZero (finish s last out) = NothingReported (finish_of s last out).answer
 ValuesZero (one_shot m salt x out) = NothingReported (one_shot_of m salt x out)
-ValuesZero (save s out) = written_length (save_of s out).written ≡ 0
+ValuesZero (save s out) = written_length (save_of s out).answer ≡ 0
 ValuesZero (load form) = Unit {0}
 ValuesZero (read log) = (reading_registers (reading_of log) ≡ 0) × (reading_events (reading_of log) ≡ 0)
 ValuesZero (check log out) =

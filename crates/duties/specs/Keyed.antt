@@ -18,8 +18,8 @@ pub data AskedKeyed : Type 0 where
 unfoldable pub keyed_answered : AskedKeyed → ℕ
 keyed_answered (key_begin m K) = answer_number (key_begin_of m K).answer
 keyed_answered (key_add k xs) = answer_number (key_add_of k xs).answer
-keyed_answered (key_finish k out) = tagged_number (key_finish_of k out).tagged
-keyed_answered (key_check k tag) = tag_check_number (key_check_of k tag).check
+keyed_answered (key_finish k out) = tagged_number (key_finish_of k out).answer
+keyed_answered (key_check k tag) = tag_check_number (key_check_of k tag).answer
 
 -- Document 02, Eight: start 1, 12; add 4, 3; finish 4, 5; tag check 4. 0 stands for acceptance.
 unfoldable pub keyed_listed : AskedKeyed → List ℕ
@@ -30,10 +30,10 @@ keyed_listed (key_check k tag) = 0 ∷ 4 ∷ []
 
 -- It hands back the keyed state it was given; begin, which was given none, the all-zero keyed state.
 unfoldable pub KeyedStateBack : AskedKeyed → Type 0
-KeyedStateBack (key_begin m K) = (key_begin_of m K).keyed ≡ zero_keyed
-KeyedStateBack (key_add k xs) = (key_add_of k xs).keyed ≡ k
-KeyedStateBack (key_finish k out) = (key_finish_of k out).keyed ≡ k
-KeyedStateBack (key_check k tag) = (key_check_of k tag).keyed ≡ k
+KeyedStateBack (key_begin m K) = (key_begin_of m K).state ≡ zero_keyed
+KeyedStateBack (key_add k xs) = (key_add_of k xs).state ≡ k
+KeyedStateBack (key_finish k out) = (key_finish_of k out).state ≡ k
+KeyedStateBack (key_check k tag) = (key_check_of k tag).state ≡ k
 
 -- It writes to no lent buffer.
 unfoldable pub KeyedBufferKept : AskedKeyed → Type 0
@@ -46,5 +46,5 @@ KeyedBufferKept (key_check k tag) = Unit {0}
 unfoldable pub KeyedValuesZero : AskedKeyed → Type 0
 KeyedValuesZero (key_begin m K) = Unit {0}
 KeyedValuesZero (key_add k xs) = Unit {0}
-KeyedValuesZero (key_finish k out) = tagged_covered (key_finish_of k out).tagged ≡ 0
-KeyedValuesZero (key_check k tag) = tag_check_yes (key_check_of k tag).check ≡ false
+KeyedValuesZero (key_finish k out) = tagged_covered (key_finish_of k out).answer ≡ 0
+KeyedValuesZero (key_check k tag) = tag_check_yes (key_check_of k tag).answer ≡ false

@@ -1,2 +1,1 @@
-pub mod Ciphers
 pub mod Quarters

@@ -1,7 +1,7 @@
 -- The large cipher with its quarters in the chain's place: the words of F change the first of them, those of F' the third, and then all have moved on.
 use mathlib.Core.Path.{◌≡◌, ap, ◌∙◌}
 use mathlib.Core.List.{List}
-use Prim.Native.Nat.{ℕ, zero, suc, ◌+◌, ◌*◌, ◌/◌, ◌%◌, ◌≤◌}
+use Prim.Native.Nat.{ℕ, zero, suc, ◌+◌, ◌*◌, ◌/◌, ◌%◌}
 use native.Mathlib.Omega.{arith}
 use native.Mathlib.Decide.{ℕ_discrete}
 use lib.ListN.{length}
@@ -71,14 +71,6 @@ module _ (F F' : ℕ → List ℕ → List ℕ) where
           eb,
           er,
         )
-
--- a quarter stands at a multiple of four, and so does the one behind it
-pub place_room : (i : ℕ) → (place_of i + 4 ≤ 16) × ((place_of i + 4) % 16 + 4 ≤ 16)
-unfolding place_of
-place_room i = room (i / 32) (i / 16 % 2)
-  where
-    room : (a b : ℕ) → ((12 * a + 8 * b) % 16 + 4 ≤ 16) × (((12 * a + 8 * b) % 16 + 4) % 16 + 4 ≤ 16)
-    room a b = (omega arith, omega arith)
 
 -- how the quarters stand before the words from i on
 module _ (w : List ℕ) (s : Quarters) where

@@ -10,7 +10,8 @@ pub enum Family {
     Large,
 }
 
-// The column "up to 256 bits": 256 is the longest digest.
+// The column "up to 256 bits": 256 is the longest digest. The numbers are the type's own and no trait's: a family is a value at run time, as in a state, so that
+// a match between the two columns is needed in any case, and a trait would be a third list of them.
 #[derive(Clone, Copy)]
 pub struct SmallFamily;
 
@@ -74,8 +75,19 @@ impl LargeFamily {
     pub const RUNS: usize = 13;
 }
 
+// The number of that name in the family's column.
+macro_rules! of_family {
+    ($family:expr, $number:ident) => {
+        match $family {
+            Family::Small => SmallFamily::$number,
+            Family::Large => LargeFamily::$number,
+        }
+    };
+}
+
 impl Family {
     // The family of a digest length, allowed or not: the border is the small family's longest digest.
+    #[tactic(auto, unfolding(crate::specs::Family::family_of))]
     pub fn of(m: u16) -> Family
         ensures { result ≡ family_of m }
     {
@@ -86,7 +98,7 @@ impl Family {
         }
     }
 
-    // The number that stands for the family in a saved form.
+    // The number that stands for the family in a saved form: the definition's, which the forms already written keep.
     pub fn number(self) -> usize
         ensures { result ≡ family_number self }
     {
@@ -99,92 +111,62 @@ impl Family {
     pub fn block_bytes(self) -> usize
         ensures { result ≡ block_bytes self }
     {
-        match self {
-            Family::Small => SmallFamily::BLOCK_BYTES,
-            Family::Large => LargeFamily::BLOCK_BYTES,
-        }
+        of_family!(self, BLOCK_BYTES)
     }
 
     pub fn chain_words(self) -> usize
         ensures { result ≡ chain_words self }
     {
-        match self {
-            Family::Small => SmallFamily::CHAIN_WORDS,
-            Family::Large => LargeFamily::CHAIN_WORDS,
-        }
+        of_family!(self, CHAIN_WORDS)
     }
 
     pub fn salt_bytes(self) -> usize
         ensures { result ≡ salt_bytes self }
     {
-        match self {
-            Family::Small => SmallFamily::SALT_BYTES,
-            Family::Large => LargeFamily::SALT_BYTES,
-        }
+        of_family!(self, SALT_BYTES)
     }
 
     pub fn length_bytes(self) -> usize
         ensures { result ≡ length_bytes self }
     {
-        match self {
-            Family::Small => SmallFamily::LENGTH_BYTES,
-            Family::Large => LargeFamily::LENGTH_BYTES,
-        }
+        of_family!(self, LENGTH_BYTES)
     }
 
     // The most bits of rest that are padded in one block.
     pub fn pad_limit(self) -> usize
         ensures { result ≡ pad_limit self }
     {
-        match self {
-            Family::Small => SmallFamily::PAD_LIMIT,
-            Family::Large => LargeFamily::PAD_LIMIT,
-        }
+        of_family!(self, PAD_LIMIT)
     }
 
     // Where the length stands in a last block: behind a rest at the limit and its 1 bit.
     pub fn length_place(self) -> usize
         ensures { result ≡ length_place self }
     {
-        match self {
-            Family::Small => SmallFamily::LENGTH_PLACE,
-            Family::Large => LargeFamily::LENGTH_PLACE,
-        }
+        of_family!(self, LENGTH_PLACE)
     }
 
     pub fn block_words(self) -> usize
         ensures { result ≡ block_words self }
     {
-        match self {
-            Family::Small => SmallFamily::BLOCK_WORDS,
-            Family::Large => LargeFamily::BLOCK_WORDS,
-        }
+        of_family!(self, BLOCK_WORDS)
     }
 
     pub fn near_distance(self) -> usize
         ensures { result ≡ near_distance self }
     {
-        match self {
-            Family::Small => SmallFamily::NEAR_DISTANCE,
-            Family::Large => LargeFamily::NEAR_DISTANCE,
-        }
+        of_family!(self, NEAR_DISTANCE)
     }
 
     pub fn salt_quads(self) -> usize
         ensures { result ≡ salt_quads self }
     {
-        match self {
-            Family::Small => SmallFamily::SALT_QUADS,
-            Family::Large => LargeFamily::SALT_QUADS,
-        }
+        of_family!(self, SALT_QUADS)
     }
 
     pub fn runs(self) -> usize
         ensures { result ≡ runs self }
     {
-        match self {
-            Family::Small => SmallFamily::RUNS,
-            Family::Large => LargeFamily::RUNS,
-        }
+        of_family!(self, RUNS)
     }
 }

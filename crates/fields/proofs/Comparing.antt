@@ -2,13 +2,10 @@
 use mathlib.Core.Path.{◌≡◌, refl, ap, ap₂}
 use mathlib.Core.Bool.{Bool, true, false, cond, false≢true}
 use mathlib.Core.List.{List, [], ◌∷◌}
-use Prim.Native.Nat.{ℕ, ◌+◌, ◌<◌}
-use native.Mathlib.Omega.{arith}
-use native.Mathlib.Numerals.{add-one}
+use Prim.Native.Nat.{ℕ}
 use lib.Dec.{eqb}
-use lib.ListN.{length, drop, get_or, drop_of_length-le}
-use lib.Seq.{drop-cons}
-use borrow.Author.Tests.{eq-eqb, ne_eqb, eqb-true}
+use lib.ListN.{length}
+use borrow.Author.Tests.{eq-eqb, eqb-true}
 use Rattle.fields.specs.Fields.{same}
 
 pub same_self : (xs : List ℕ) → same xs xs ≡ true
@@ -34,18 +31,3 @@ same_long xs ys h = by (same xs ys) (same_equal xs ys)
     by : (t : Bool) → (t ≡ true → xs ≡ ys) → false ≡ t
     by false p = refl
     by true p = absurd (h (ap length (p refl)))
-
--- the bytes from i on
-module _ (xs ys : List ℕ) (i : ℕ) where
-  module _ (h : i < length xs) (g : i < length ys) where
-    pub same_more : get_or xs i 0 ≡ get_or ys i 0 → same (drop i xs) (drop i ys) ≡ same (drop (i + 1) xs) (drop (i + 1) ys)
-    unfolding same
-    same_more e = rw (add-one i, drop-cons xs i 0 h, drop-cons ys i 0 g, eq-eqb (get_or xs i 0) (get_or ys i 0) e)
-
-    pub same_apart : (get_or xs i 0 ≡ get_or ys i 0 → ⊥) → same (drop i xs) (drop i ys) ≡ false
-    unfolding same
-    same_apart e = rw (drop-cons xs i 0 h, drop-cons ys i 0 g, ne_eqb (get_or xs i 0) (get_or ys i 0) e)
-
-  pub same_all : (length xs < i + 1) → (length ys < i + 1) → same (drop i xs) (drop i ys) ≡ true
-  unfolding same
-  same_all h g = rw (drop_of_length-le xs {i = i} (omega arith), drop_of_length-le ys {i = i} (omega arith))

@@ -1,13 +1,14 @@
 -- The steps of the loops that put numbers, bytes and words into a buffer, and bytes put one behind the other.
 use mathlib.Core.Path.{◌≡◌, refl, ap, sym, ◌∙◌}
-use mathlib.Core.List.{List, [], ◌∷◌, ◌++◌, append-nil}
+use mathlib.Core.List.{List, [], ◌∷◌, ◌++◌, append-nil, append_assoc}
 use Prim.Native.Nat.{ℕ, suc, ◌+◌, ◌-◌, ◌/◌, ◌%◌, ◌≤◌, ◌<◌, min}
 use native.Mathlib.Omega.{arith}
 use native.Mathlib.Decide.{dec_lt}
 use native.Mathlib.Nat.{zero-add}
 use native.Mathlib.Numerals.{add-one}
-use lib.ListN.{length, get_or, drop, set, drop_of_length-le}
-use lib.Seq.{sets, sets-eq, set_out, set-set, set_comm, drop-cons}
+use lib.ListN.{length, get_or, take, drop, set, drop_of_length-le, take-append-drop}
+use lib.Seq.{sets, sets-eq, length-sets, length-take-le, take_all, drop-drop, set_out, set-set, set_comm, drop-cons}
+use borrow.Rule.Slice.PartMut.{put_mid}
 use Rattle.fields.specs.Fields.{le, bytes_of}
 use Rattle.fields.proofs.Numbers.{le_length}
 
@@ -17,31 +18,18 @@ sets_out l i [] h = refl
 sets_out l i (x ∷ v) h = rw (set_out l i x h) (sets_out l (suc i) v (omega arith))
 
 module _ (out : List ℕ) (to : ℕ) where
-  pub number_step : (left value : ℕ) → 0 < left → sets out to (le left value) ≡ sets (set out to (value % 256)) (to + 1) (le (left - 1) (value / 256))
+  pub number_step : (left next value : ℕ) → left ≡ next + 1 → sets out to (le left value) ≡ sets (set out to (value % 256)) (to + 1) (le next (value / 256))
   unfolding le
-  number_step left value h =
-      let e : left ≡ suc (left - 1) = omega arith in
-      rw add-one (ap (λ (k : ℕ). sets out to (le k value)) e)
+  number_step left next value e =
+      let d : left ≡ suc next = omega arith in
+      rw add-one (ap (λ (k : ℕ). sets out to (le k value)) d)
 
-  pub number_end : (left value : ℕ) → left ≤ 0 → sets out to (le left value) ≡ out
+  -- it is all put, or there is no more room
+  pub number_end : (left value : ℕ) → (to < length out → left ≡ 0) → sets out to (le left value) ≡ out
   unfolding le
-  number_end left value h =
-      let e : left ≡ 0 = omega arith in
-      rw e
-
--- the bytes from i on, put where the first i end
-module _ (out : List ℕ) (at : ℕ) (bytes : List ℕ) (i : ℕ) where
-  pub bytes_step : i < length bytes → sets out (at + i) (drop i bytes) ≡ sets (set out (at + i) (get_or bytes i 0)) (at + (i + 1)) (drop (i + 1) bytes)
-  bytes_step h =
-      let p : suc (at + i) ≡ at + (i + 1) = omega arith in
-      let q : suc i ≡ i + 1 = omega arith in
-      rw (drop-cons bytes i 0 h, ← p, ← q)
-
-  -- they are all put, or there is no more room
-  pub bytes_end : min (length bytes) (length out - at) ≤ i → at < length out → sets out (at + i) (drop i bytes) ≡ out
-  bytes_end h g = elim (dec_lt i (length bytes)) [
-    | yes k ↦ sets_out out (at + i) (drop i bytes) (omega arith)
-    | no k ↦ rw (drop_of_length-le bytes {i = i} (omega arith))
+  number_end left value e = elim (dec_lt to (length out)) [
+    | yes h ↦ rw (e h)
+    | no h ↦ sets_out out to (le left value) (omega arith)
   ]
 
 -- two stores, the second where the first ends
@@ -52,6 +40,27 @@ sets_sets l i [] v =
 sets_sets l i (x ∷ u) v =
     let e : i + suc (length u) ≡ suc i + length u = omega arith in
     rw e (sets_sets (set l i x) (suc i) u v)
+
+-- only as many bytes are put as there is room for
+pub sets_room : (out : List ℕ) (at : ℕ) (bytes : List ℕ) (n : ℕ) → min (length bytes) (length out - at) ≤ n → sets out at (take n bytes) ≡ sets out at bytes
+sets_room out at bytes n h = elim (dec_lt n (length bytes)) [
+  | yes k ↦
+      let part = take n bytes in
+      sym (sets_out (sets out at part) (at + length part) (drop n bytes) (omega (arith, length-sets out at part, length-take-le n bytes (omega arith))))
+      ∙ sets_sets out at part (drop n bytes)
+      ∙ ap (sets out at) (take-append-drop n bytes)
+  | no k ↦ ap (sets out at) (take_all n bytes (omega arith))
+]
+
+-- as many bytes copied as there are and as there is room for
+pub put_room : (out : List ℕ) (at : ℕ) (bytes : List ℕ) {n k : ℕ} {part : List ℕ} → at < length out → n ≡ min (length bytes) (length out - at) → k ≡ n → part ≡ take n bytes
+    → put_mid at k out part ≡ sets out at bytes
+put_room out at bytes {n} h e d p =
+    let size = length-take-le n bytes (omega arith) in
+    rw (d, p, ← append_assoc)
+    (ap (λ (l : List ℕ). take at out ++ take n bytes ++ l) (drop-drop n at out ∙ ap (λ (m : ℕ). drop (at + m) out) (sym size))
+    ∙ sym (sets-eq (take n bytes) out at (omega (arith, size)))
+    ∙ sets_room out at bytes n (omega arith))
 
 -- what a second call leaves that puts bytes where those of the first end
 pub put_behind : (l : List ℕ) (i j : ℕ) (u v : List ℕ) → j ≡ i + length u → {b c : List ℕ} → b ≡ sets l i u → c ≡ sets b j v → c ≡ sets l i (u ++ v)

@@ -17,9 +17,8 @@ use Rattle.startup.specs.Startup.{start_of}
 use Rattle.startup.proofs.Started.{start_length}
 use Rattle.answers.specs.declared.refusal.Refusal.{Refusal}
 use Rattle.answers.specs.declared.refusal.Refusal.TheVariants.{StateInconsistent, BufferShort, BitsUnfit}
-use Rattle.answers.specs.declared.refusal.Answer.TheVariants.{Accepted, Refused}
+use Rattle.std.specs.Prelude.{Ok, Err}
 use Rattle.answers.proofs.Tests.{and_right}
-use Rattle.reports.specs.declared.Report.TheVariants as report
 use Rattle.bits.specs.declared.LastBits.{LastBits}
 use Rattle.bits.specs.Bits.{last_fits, digest_bytes, first_bits}
 use Rattle.bits.specs.Message.{Message, message_of}
@@ -30,7 +29,7 @@ use Rattle.fields.proofs.Storing.{sets_front}
 use Rattle.state.specs.declared.State.{State}
 use Rattle.state.specs.State.{limit, allowed, consistent_of}
 use Rattle.state.proofs.Soundness.{Sound, sound}
-use Rattle.finishing.specs.declared.Finished.{Finished}
+use Rattle.finishing.specs.Finish.{Finished}
 use Rattle.finishing.specs.Blocks.{blocks_of, chain_over, digest_of}
 use Rattle.finishing.specs.Finish.{held_of, closing, state_digest, finish_answer, finish_of, finish_buffer}
 use Rattle.finishing.proofs.Blocking.{chain_length}
@@ -64,26 +63,26 @@ count_max s ok = omega (arith, ok.within, ok.whole, le-mul_of_pos_right s.compre
 
 -- finish
 module _ (s : State) (last : LastBits) (out : List ℕ) where
-  pub finish_not : consistent_of s ≡ false → finish_answer s last out ≡ Refused StateInconsistent
+  pub finish_not : consistent_of s ≡ false → finish_answer s last out ≡ Err StateInconsistent
   unfolding finish_answer
   finish_not h = rw h
 
-  pub finish_refused : {r : Refusal} → finish_answer s last out ≡ Refused r
-      → ◌≡◌ {A = Finished} (record { report = report.Refused r; state = s }) (finish_of s last out) × (out ≡ finish_buffer s last out)
+  pub finish_refused : {r : Refusal} → finish_answer s last out ≡ Err r
+      → ◌≡◌ {A = Finished} (record { answer = Err r; state = s }) (finish_of s last out) × (out ≡ finish_buffer s last out)
   unfolding finish_of finish_buffer
   finish_refused e = (rw e, rw e)
 
   module _ (ok : consistent_of s ≡ true) where
-    pub finish_unfit : last_fits last ≡ false → finish_answer s last out ≡ Refused BitsUnfit
+    pub finish_unfit : last_fits last ≡ false → finish_answer s last out ≡ Err BitsUnfit
     unfolding finish_answer
     finish_unfit h = rw (ok, h)
 
     module _ (fits : last_fits last ≡ true) {size : ℕ} (es : size ≡ digest_bytes s.m) where
-      pub finish_short : length out < size → finish_answer s last out ≡ Refused BufferShort
+      pub finish_short : length out < size → finish_answer s last out ≡ Err BufferShort
       unfolding finish_answer
       finish_short h = rw (ok, fits, ← es, lt-ltb (length out) size h)
 
-      finish_in : size ≤ length out → finish_answer s last out ≡ Accepted
+      finish_in : size ≤ length out → finish_answer s last out ≡ Ok tt
       unfolding finish_answer
       finish_in h = rw (ok, fits, ← es, le-ltb (length out) size h)
 
@@ -94,7 +93,7 @@ module _ (s : State) (last : LastBits) (out : List ℕ) where
       pub finished : size ≤ length out → length s.chain ≡ 16 → {chain after : List ℕ} {n : ℕ}
           → (chain ≡ chain_over s.family s.salt (closing s last) s.chain) × (n ≡ length (closing s last))
           → after ≡ sets out 0 (first_bits s.m (bytes_of chain))
-          → ◌≡◌ {A = Finished} (record { report = report.Covers s.covered last.count (s.compressed + n); state = s }) (finish_of s last out)
+          → ◌≡◌ {A = Finished} (record { answer = Ok (record { covered = s.covered; bits = last.count; blocks = s.compressed + n }); state = s }) (finish_of s last out)
           × (after ≡ finish_buffer s last out)
       unfolding finish_of finish_buffer state_digest
       finished h sixteen c a =

@@ -86,13 +86,13 @@ module _ (s : State) (last : LastBits) (full : length s.held ≡ 128) (zero : al
   two h = rw (held_length s full, lt-leb rest_bits (pad_limit f) h)
 
   -- in the code's terms
-  module _ {size n k : ℕ} (es : size ≡ block_bytes f) (en : n ≡ bits) (ek : k ≡ 8 * (s.covered.0 % size) + last.count) {block : List ℕ}
-      (eb : block ≡ set s.held (s.covered.0 % size) (marked last)) {t : Bool} (et : t ≡ leb k (pad_limit f)) where
+  module _ {rest n k : ℕ} (er : rest ≡ r) (en : n ≡ bits) (ek : k ≡ 8 * rest + last.count) {block : List ℕ}
+      (eb : block ≡ set s.held rest (marked last)) {t : Bool} (et : t ≡ leb k (pad_limit f)) where
     known : k ≡ rest_bits
-    known = ek ∙ rw es
+    known = ek ∙ rw er
 
     filled : block ≡ fill 128 xs
-    filled = eb ∙ rw es ended
+    filled = eb ∙ rw er ended
 
     pub close_one : t ≡ true → {padded done : List ℕ} {low : ℕ} {counter : Counter}
         → padded ≡ sets block (length_place f) (le (length_bytes f) n ++ le 2 s.m)

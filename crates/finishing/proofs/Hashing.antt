@@ -13,9 +13,8 @@ use Rattle.family.specs.Family.{family_of, block_bytes}
 use Rattle.family.proofs.Sizes.{block_max}
 use Rattle.answers.specs.declared.refusal.Refusal.{Refusal}
 use Rattle.answers.specs.declared.refusal.Refusal.TheVariants.{DigestLength, MessageLimit, BufferShort, BitsUnfit}
-use Rattle.answers.specs.declared.refusal.Answer.TheVariants.{Accepted, Refused}
-use Rattle.reports.specs.declared.Report.{Report}
-use Rattle.reports.specs.declared.Report.TheVariants as report
+use Rattle.std.specs.Prelude.{Ok, Err}
+use Rattle.reports.specs.Report.{Report}
 use Rattle.bits.specs.declared.LastBits.{LastBits}
 use Rattle.bits.specs.Bits.{last_fits, digest_bytes, first_bits}
 use Rattle.bits.specs.Message.{Message, message_of}
@@ -71,30 +70,30 @@ module _ (m : ℕ) (salt start xs : List ℕ) (last : LastBits) (out : List ℕ)
   abbrev x : Message
   x = message_of xs last
 
-  pub hash_refused : {r : Refusal} → hash_answer m x out ≡ Refused r → ◌≡◌ {A = Report} (report.Refused r) (hash_of m x out) × (out ≡ hash_buffer m salt start x out)
+  pub hash_refused : {r : Refusal} → hash_answer m x out ≡ Err r → ◌≡◌ {A = Report} (Err r) (hash_of m x out) × (out ≡ hash_buffer m salt start x out)
   unfolding hash_of hash_buffer
   hash_refused e = (rw e, rw e)
 
-  pub hash_length : allowed m ≡ false → hash_answer m x out ≡ Refused DigestLength
+  pub hash_length : allowed m ≡ false → hash_answer m x out ≡ Err DigestLength
   unfolding hash_answer
   hash_length h = rw h
 
   module _ (ok : allowed m ≡ true) where
-    pub hash_over : limit < length xs → hash_answer m x out ≡ Refused MessageLimit
+    pub hash_over : limit < length xs → hash_answer m x out ≡ Err MessageLimit
     unfolding hash_answer
     hash_over h = rw (ok, lt-ltb limit (length xs) h)
 
     module _ (room : length xs ≤ limit) where
-      pub hash_unfit : last_fits last ≡ false → hash_answer m x out ≡ Refused BitsUnfit
+      pub hash_unfit : last_fits last ≡ false → hash_answer m x out ≡ Err BitsUnfit
       unfolding hash_answer
       hash_unfit h = rw (ok, le-ltb limit (length xs) room, h)
 
       module _ (fits : last_fits last ≡ true) {size : ℕ} (es : size ≡ digest_bytes m) where
-        pub hash_short : length out < size → hash_answer m x out ≡ Refused BufferShort
+        pub hash_short : length out < size → hash_answer m x out ≡ Err BufferShort
         unfolding hash_answer
         hash_short h = rw (ok, le-ltb limit (length xs) room, fits, ← es, lt-ltb (length out) size h)
 
-        hash_in : size ≤ length out → hash_answer m x out ≡ Accepted
+        hash_in : size ≤ length out → hash_answer m x out ≡ Ok tt
         unfolding hash_answer
         hash_in h = rw (ok, le-ltb limit (length xs) room, fits, ← es, le-ltb (length out) size h)
 
@@ -102,7 +101,7 @@ module _ (m : ℕ) (salt start xs : List ℕ) (last : LastBits) (out : List ℕ)
         pub hashed : size ≤ length out → {chain after : List ℕ} {k : ℕ}
             → (chain ≡ chain_over (family_of m) salt (blocks_of (family_of m) m x) start) × (k ≡ length (blocks_of (family_of m) m x))
             → after ≡ sets out 0 (first_bits m (bytes_of chain))
-            → ◌≡◌ {A = Report} (report.Covers (record { 0 = length xs }) last.count k) (hash_of m x out) × (after ≡ hash_buffer m salt start x out)
+            → ◌≡◌ {A = Report} (Ok (record { covered = record { 0 = length xs }; bits = last.count; blocks = k })) (hash_of m x out) × (after ≡ hash_buffer m salt start x out)
         unfolding hash_of hash_buffer
         hashed h e a =
             let whole = chain_over (family_of m) salt (blocks_of (family_of m) m x) start in

@@ -5,9 +5,11 @@ use Rattle.family.specs.Family.{block_bytes}
 use Rattle.counter.specs.Counter.{counter_of}
 use Rattle.compress.specs.Run.{run_over}
 use Rattle.answers.specs.declared.refusal.Refusal.TheVariants.{StateInconsistent, BufferShort, BitsUnfit}
-use Rattle.answers.specs.declared.refusal.Answer.{Answer}
+use Rattle.answers.specs.Refusal.{Answer}
 use Rattle.answers.specs.Refusal.{judged}
 use Rattle.answers.specs.Written.{written}
+use Rattle.reports.specs.declared.Coverage.{Coverage}
+use Rattle.answers.specs.declared.handed.Handed.{Handed}
 use Rattle.reports.specs.Report.{reported}
 use Rattle.bits.specs.declared.LastBits.{LastBits}
 use Rattle.bits.specs.Bits.{last_fits, digest_bytes, first_bits}
@@ -15,7 +17,6 @@ use Rattle.bits.specs.Message.{message_of}
 use Rattle.fields.specs.Fields.{bytes_of}
 use Rattle.state.specs.declared.State.{State}
 use Rattle.state.specs.State.{consistent_of}
-use Rattle.finishing.specs.declared.Finished.{Finished}
 use Rattle.finishing.specs.Blocks.{last_blocks, chain_over}
 
 -- the bytes of a state that are in no whole block yet
@@ -37,6 +38,10 @@ closing s last = ending s.family s.m s.covered.0 (held_of s) last
 unfoldable pub state_digest : State → LastBits → List ℕ
 state_digest s last = first_bits s.m (bytes_of (chain_over s.family s.salt (closing s last) s.chain))
 
+-- what a digest covers or a refusal, and the state handed back
+abbrev pub Finished : Type 0
+Finished = Handed Coverage State
+
 -- finish: 4, 11, 5. It hands back the state that it was given.
 unfoldable pub finish_answer : State → LastBits → List ℕ → Answer
 finish_answer s last out =
@@ -46,7 +51,7 @@ finish_answer s last out =
 
 unfoldable pub finish_of : State → LastBits → List ℕ → Finished
 finish_of s last out = record {
-  report = reported (finish_answer s last out) s.covered.0 last.count (s.compressed + length (closing s last));
+  answer = reported (finish_answer s last out) s.covered.0 last.count (s.compressed + length (closing s last));
   state = s;
 }
 

@@ -2,10 +2,10 @@
 use Rattle.std.specs.Prelude.{not, List, [], ◌∷◌, ℕ, ltb, length}
 use Rattle.family.specs.Family.{family_of}
 use Rattle.answers.specs.declared.refusal.Refusal.TheVariants.{DigestLength, MessageLimit, BufferShort, BitsUnfit}
-use Rattle.answers.specs.declared.refusal.Answer.{Answer}
+use Rattle.answers.specs.Refusal.{Answer}
 use Rattle.answers.specs.Refusal.{judged}
 use Rattle.answers.specs.Written.{written}
-use Rattle.reports.specs.declared.Report.{Report}
+use Rattle.reports.specs.Report.{Report}
 use Rattle.reports.specs.Report.{reported}
 use Rattle.bits.specs.Bits.{last_fits, digest_bytes, first_bits}
 use Rattle.bits.specs.Message.{Message}

@@ -3,10 +3,6 @@
 
 use std::io;
 
-fn print_column(rt: &impl Print, a: [u8; 4]) -> io::Result<()> {
-    println!(rt; "{:02x} {:02x} {:02x} {:02x}", a[0], a[1], a[2], a[3])
-}
-
 fn main(rt: HostRuntime) -> io::Result<()> {
     let start = [
         [0x19, 0x3d, 0xe3, 0xbe],
@@ -20,9 +16,8 @@ fn main(rt: HostRuntime) -> io::Result<()> {
         [0x23, 0xa3, 0x39, 0x39],
         [0x2a, 0x6c, 0x76, 0x05],
     ];
-    let next = aes::round(start, key);
-    print_column(&rt, next[0])?;
-    print_column(&rt, next[1])?;
-    print_column(&rt, next[2])?;
-    print_column(&rt, next[3])
+    for [a, b, c, d] in aes::round(start, key) {
+        println!(rt; "{a:02x} {b:02x} {c:02x} {d:02x}")?;
+    }
+    Ok(())
 }

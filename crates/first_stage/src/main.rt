@@ -2,42 +2,37 @@
 // standard output, for the second to go on with.
 #![tactic(auto)]
 
-use answers::{Answer, Written};
 use family::SmallFamily;
 use state::State;
 use std::io;
 use std::process::ExitCode;
-use streaming::Status;
+use streaming::Stop;
 
+// By `text::first`: `save` says how many bytes it wrote by the definition of the form, and that so many fit stands in no clause of it.
 fn hand_over(rt: &impl Print, state: State) -> io::Result<()> {
     let mut form = [0u8; saved_form::LONGEST];
-    let saved = saving::save(state, &mut form);
-    let written = saved.written;
-    match written {
-        Written::Bytes(size) => rt.write_all(text::first(&form, size)),
-        Written::Refused(refusal) => streaming::print_refusal(rt, refusal.number()),
+    match saving::save(state, &mut form).answer {
+        Ok(size) => rt.write_all(text::first(&form, size)),
+        Err(refusal) => streaming::print_refusal(rt, refusal.number()),
     }
 }
 
 fn measure(rt: &HostRuntime, state: State) -> io::Result<()> {
     let mut buffer = [0u8; 4096];
-    let turn = streaming::add_all(&mut rt.stdin(), form::BYTES, state, &mut buffer);
-    let status = turn.status;
-    match status {
-        Status::End => hand_over(rt, turn.state),
-        Status::Refused(refusal) => streaming::print_refusal(rt, refusal.number()),
-        _ => rt
+    match streaming::add_all(&mut rt.stdin(), form::BYTES, state, &mut buffer) {
+        Ok(reached) => hand_over(rt, reached),
+        Err(Stop::Refused(refusal)) => streaming::print_refusal(rt, refusal.number()),
+        Err(Stop::Failed) => rt
             .stderr()
             .write_all(b"first_stage: standard input cannot be read\n"),
     }
 }
 
 fn start(rt: &HostRuntime) -> io::Result<()> {
-    let step = digest::begin(form::BYTES, SmallFamily::DIGEST_BITS, b"");
-    let answer = step.answer;
-    match answer {
-        Answer::Accepted => measure(rt, step.state),
-        Answer::Refused(refusal) => streaming::print_refusal(rt, refusal.number()),
+    let begun = digest::begin(form::BYTES, SmallFamily::DIGEST_BITS, b"");
+    match begun.answer {
+        Ok(()) => measure(rt, begun.state),
+        Err(refusal) => streaming::print_refusal(rt, refusal.number()),
     }
 }
 

@@ -1,57 +1,21 @@
--- The value of a character by the range that it is in, and the digits of a text one by one.
-use mathlib.Core.Path.{◌≡◌}
-use mathlib.Core.Bool.{true, false, ◌&&◌, and-false}
+-- The digits of a text one by one.
+use mathlib.Core.Path.{◌≡◌, refl, ap}
+use mathlib.Core.Bool.{Bool, true, ◌&&◌}
 use mathlib.Core.List.{List, [], ◌∷◌}
-use Prim.Native.Nat.{ℕ, zero, suc, ◌+◌, ◌*◌, ◌-◌, ◌≤◌, ◌<◌}
+use Prim.Native.Nat.{ℕ, zero, suc, ◌+◌, ◌*◌, ◌<◌}
 use native.Mathlib.Omega.{arith}
-use native.Mathlib.Decide.{dec_le}
-use native.Mathlib.Numerals.{add-one}
-use lib.Dec.{leb, ltb}
-use lib.ListN.{length, drop, get_or, drop_of_length-le}
-use lib.Seq.{drop-cons}
-use borrow.Author.Tests.{le-leb, lt-leb, lt-ltb, le-ltb, ltb-true}
+use lib.Dec.{ltb}
+use lib.ListN.{length, get_or}
+use Rattle.std.specs.List.{list_all}
+use borrow.Author.Tests.{ltb-true}
 use Rattle.answers.proofs.Tests.{and_left, and_right}
 use Rattle.hex_bytes.specs.Hex.{digit_value, digits}
 
--- a character that is not from a to b
-outside : (a b c : ℕ) → (a ≤ c → b < c) → (leb a c && leb c b) ≡ false
-outside a b c h = elim (dec_le a c) [
-  | yes p ↦ rw (lt-leb c b (h p), and-false (leb a c))
-  | no p ↦ rw (lt-leb a c (omega arith))
-]
-
--- what is returned for each range, and for a character in none of them
-module _ (c r : ℕ) where
-  pub numeral : 48 ≤ c → c ≤ 57 → r ≡ c - 48 → r ≡ digit_value c
-  unfolding digit_value
-  numeral h g e = rw (le-leb 48 c h, le-leb c 57 g) e
-
-  pub small_letter : 97 ≤ c → c ≤ 102 → r ≡ c - 87 → r ≡ digit_value c
-  unfolding digit_value
-  small_letter h g e = rw (outside 48 57 c (omega arith), le-leb 97 c h, le-leb c 102 g) e
-
-  pub capital : 65 ≤ c → c ≤ 70 → r ≡ c - 55 → r ≡ digit_value c
-  unfolding digit_value
-  capital h g e = rw (outside 48 57 c (omega arith), outside 97 102 c (omega arith), le-leb 65 c h, le-leb c 70 g) e
-
-  pub no_digit : (48 ≤ c → 57 < c) → (97 ≤ c → 102 < c) → (65 ≤ c → 70 < c) → r ≡ 16 → r ≡ digit_value c
-  unfolding digit_value
-  no_digit n s l e = rw (outside 48 57 c n, outside 97 102 c s, outside 65 70 c l) e
-
--- the characters from place i on
-module _ (text : List ℕ) (i : ℕ) where
-  module _ (h : i < length text) where
-    pub digit_passed : digit_value (get_or text i 0) < 16 → digits (drop i text) ≡ digits (drop (i + 1) text)
-    unfolding digits
-    digit_passed d = rw (drop-cons text i 0 h, add-one i, lt-ltb (digit_value (get_or text i 0)) 16 d)
-
-    pub digit_missed : 16 ≤ digit_value (get_or text i 0) → digits (drop i text) ≡ false
-    unfolding digits
-    digit_missed d = rw (drop-cons text i 0 h, le-ltb (digit_value (get_or text i 0)) 16 d)
-
-  pub digits_end : length text ≤ i → digits (drop i text) ≡ true
-  unfolding digits
-  digits_end h = rw drop_of_length-le
+-- every character is a digit
+pub digits_all : (text : List ℕ) → list_all (λ c. ltb (digit_value c) 16) text ≡ digits text
+unfolding digits
+digits_all [] = refl
+digits_all (c ∷ cs) = ap (λ (t : Bool). ltb (digit_value c) 16 && t) (digits_all cs)
 
 -- each character of digits is one, and so are both of a pair
 digit_at : (text : List ℕ) → digits text ≡ true → (i : ℕ) → i < length text → digit_value (get_or text i 0) < 16

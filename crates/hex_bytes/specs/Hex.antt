@@ -1,7 +1,7 @@
 -- Bytes spelled in hex: two digits a byte, the high one first, letters of either case.
-use Rattle.std.specs.Prelude.{Bool, true, not, cond, ◌&&◌, List, [], ◌∷◌, ◌++◌, ℕ, zero, suc, ◌+◌, ◌*◌, ◌-◌, ◌/◌, ◌%◌, eqb, leb, ltb, length, drop, get_or}
-use Rattle.hex_bytes.specs.declared.Decoded.{Decoded}
-use Rattle.hex_bytes.specs.declared.Decoded.TheVariants.{Bytes, NotHex, NoRoom}
+use Rattle.std.specs.Prelude.{Result, Ok, Err, Bool, true, not, cond, ◌&&◌, List, [], ◌∷◌, ◌++◌, ℕ, zero, suc, ◌+◌, ◌*◌, ◌-◌, ◌/◌, ◌%◌, eqb, leb, ltb, length, drop, get_or}
+use Rattle.hex_bytes.specs.declared.HexError.{HexError}
+use Rattle.hex_bytes.specs.declared.HexError.TheVariants.{NotHex, NoRoom}
 
 -- the value of a digit: 0 to 9, a to f, A to F; 16 for any other character
 unfoldable pub digit_value : ℕ → ℕ
@@ -25,8 +25,8 @@ unfoldable pub is_hex : List ℕ → Bool
 is_hex text = eqb (length text % 2) 0 && digits text
 
 -- how many bytes are spelled, into a buffer of so many
-unfoldable pub decode_of : List ℕ → ℕ → Decoded
-decode_of text room = cond (not (is_hex text)) NotHex (cond (ltb room (length text / 2)) NoRoom (Bytes (length text / 2)))
+unfoldable pub decode_of : List ℕ → ℕ → Result ℕ HexError
+decode_of text room = cond (not (is_hex text)) (Err NotHex) (cond (ltb room (length text / 2)) (Err NoRoom) (Ok (length text / 2)))
 
 -- the bytes at the buffer's front, and nothing where they are not hex or there is no room
 unfoldable pub decode_buffer : List ℕ → List ℕ → List ℕ

@@ -7,7 +7,7 @@ use native.Mathlib.Omega.{arith}
 use lib.ListN.{length, replicate}
 use borrow.Author.Tests.{le-ltb}
 use Rattle.family.specs.Family.{family_of}
-use Rattle.answers.specs.declared.refusal.Answer.TheVariants.{Accepted}
+use Rattle.std.specs.Prelude.{Ok}
 use Rattle.bits.specs.declared.LastBits.{LastBits}
 use Rattle.bits.specs.Bits.{no_bits, last_fits, digest_bytes}
 use Rattle.state.specs.declared.State.{State}
@@ -16,7 +16,7 @@ use Rattle.state.specs.State.{limit, allowed, consistent_of}
 use Rattle.state.proofs.Soundness.{sound}
 use Rattle.finishing.specs.Finish.{state_digest, finish_answer, finish_buffer}
 use Rattle.finishing.proofs.Answers.{m_max}
-use Rattle.digest.specs.declared.calls.Step.{Step}
+use Rattle.digest.specs.Calls.{Step}
 use Rattle.digest.specs.Running.{state_of}
 use Rattle.digest.specs.Calls.{salt_fits, begin_answer, begin_of, add_of}
 use Rattle.digest.proofs.Answers.{add_in}
@@ -36,7 +36,7 @@ module _ (m : ℕ) (ok : allowed m ≡ true) where
   unfolding salt_fits
   fits = refl
 
-  begins : begin_answer m [] ≡ Accepted
+  begins : begin_answer m [] ≡ Ok tt
   unfolding begin_answer
   begins = rw (ok, fits)
 

@@ -1,9 +1,9 @@
 -- Begin, add, finish and the tag check, as total functions of their inputs: each with its tests in document 02's order, its result, and what its lent buffer
 -- holds afterwards.
-use Rattle.std.specs.Prelude.{not, List, [], ◌∷◌, ℕ, ◌+◌, ◌-◌, ltb, length}
+use Rattle.std.specs.Prelude.{Bool, not, List, [], ◌∷◌, ℕ, ◌+◌, ◌-◌, ltb, length}
 use Rattle.family.specs.Family.{block_bytes}
 use Rattle.answers.specs.declared.refusal.Refusal.TheVariants.{DigestLength, MessageLimit, StateInconsistent, BufferShort, KeyLong}
-use Rattle.answers.specs.declared.refusal.Answer.{Answer}
+use Rattle.answers.specs.Refusal.{Answer}
 use Rattle.answers.specs.Refusal.{judged, if_accepted}
 use Rattle.answers.specs.Written.{written}
 use Rattle.tag_answers.specs.Tagged.{tagged}
@@ -14,10 +14,19 @@ use Rattle.state.specs.State.{limit}
 use Rattle.digest.specs.Running.{absorbed}
 use Rattle.keyed_state.specs.declared.Keyed.{Keyed}
 use Rattle.keyed_state.specs.Keyed.{tag_length, keyed_consistent, zero_keyed}
-use Rattle.keyed.specs.declared.calls.Step.{Step}
-use Rattle.keyed.specs.declared.calls.Finished.{Finished}
-use Rattle.keyed.specs.declared.calls.Compared.{Compared}
+use Rattle.answers.specs.declared.handed.Handed.{Handed}
+use Rattle.reports.specs.declared.Length.{Length}
 use Rattle.keyed.specs.Running.{keyed_of, state_tag}
+
+-- An answer and the keyed state handed back; what a tag covers; and whether a tag is right.
+abbrev pub Step : Type 0
+Step = Handed (Unit {0}) Keyed
+
+abbrev pub Finished : Type 0
+Finished = Handed Length Keyed
+
+abbrev pub Compared : Type 0
+Compared = Handed Bool Keyed
 
 -- "keys up to 65,535 bytes"
 abbrev pub key_limit : ℕ
@@ -28,7 +37,7 @@ unfoldable pub key_begin_answer : ℕ → List ℕ → Answer
 key_begin_answer m K = judged ((not (tag_length m), DigestLength) ∷ (ltb key_limit (length K), KeyLong) ∷ [])
 
 unfoldable pub key_begin_of : ℕ → List ℕ → Step
-key_begin_of m K = record { answer = key_begin_answer m K; keyed = if_accepted (key_begin_answer m K) (keyed_of m K []) zero_keyed }
+key_begin_of m K = record { answer = key_begin_answer m K; state = if_accepted (key_begin_answer m K) (keyed_of m K []) zero_keyed }
 
 -- add: 4, 3. The inner state covers the key's block, so that "one block and the message together" is what it would cover.
 unfoldable pub key_add_answer : Keyed → List ℕ → Answer
@@ -37,7 +46,7 @@ key_add_answer k xs = judged ((not (keyed_consistent k), StateInconsistent) ∷ 
 unfoldable pub key_add_of : Keyed → List ℕ → Step
 key_add_of k xs = record {
   answer = key_add_answer k xs;
-  keyed = if_accepted (key_add_answer k xs) (record { inner = absorbed k.inner xs; key = k.key }) k;
+  state = if_accepted (key_add_answer k xs) (record { inner = absorbed k.inner xs; key = k.key }) k;
 }
 
 -- finish: 4, 5. It hands back the keyed state that it was given.
@@ -46,7 +55,7 @@ key_finish_answer k out = judged ((not (keyed_consistent k), StateInconsistent) 
 
 -- "Finish reports the message's bytes without the key block, and no blocks."
 unfoldable pub key_finish_of : Keyed → List ℕ → Finished
-key_finish_of k out = record { tagged = tagged (key_finish_answer k out) (k.inner.covered.0 - block_bytes k.inner.family); keyed = k }
+key_finish_of k out = record { answer = tagged (key_finish_answer k out) (k.inner.covered.0 - block_bytes k.inner.family); state = k }
 
 unfoldable pub key_finish_buffer : Keyed → List ℕ → List ℕ
 key_finish_buffer k out = written (key_finish_answer k out) (state_tag k) out
@@ -56,4 +65,4 @@ unfoldable pub key_check_answer : Keyed → Answer
 key_check_answer k = judged ((not (keyed_consistent k), StateInconsistent) ∷ [])
 
 unfoldable pub key_check_of : Keyed → List ℕ → Compared
-key_check_of k tag = record { check = tag_checked (key_check_answer k) (same (state_tag k) tag); keyed = k }
+key_check_of k tag = record { answer = tag_checked (key_check_answer k) (same (state_tag k) tag); state = k }

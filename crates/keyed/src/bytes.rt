@@ -7,28 +7,20 @@ ghost use Rattle.keyed.specs.Hmac.{repeated, ◌⊕◌};
 pub(crate) fn xored(block: [u8; 128], pad: u8) -> [u8; 128]
     ensures { result ≡ block ⊕ repeated 128 pad }
 {
-    let mut b = block;
-    let mut i = 0;
-    while i < 128 {
-        b[i] = b[i] ^ pad;
-        i += 1;
+    let mut xored = block;
+    for b in &mut xored {
+        *b ^= pad;
     }
-    b
+    xored
 }
 
-// Whether two slices hold the same bytes. Where they are of one length all bytes are looked at: the loop has no way out, so that no answer comes sooner for a
-// tag that differs sooner.
+// Whether two slices hold the same bytes. Where they are of one length all bytes are looked at: a fold has no way out, so that no answer comes sooner for a tag
+// that differs sooner.
 pub(crate) fn alike(a: &[u8], b: &[u8]) -> bool
     ensures { result ≡ same a.now b.now }
 {
     if a.len() != b.len() {
         return false;
     }
-    let mut any: u8 = 0;
-    let mut i = 0;
-    while i < a.len() {
-        any = any | (a[i] ^ b[i]);
-        i += 1;
-    }
-    any == 0
+    a.iter().zip(b).fold(0, |any, (x, y)| any | (*x ^ *y)) == 0
 }

@@ -18,48 +18,49 @@ const IPAD: u8 = 0x36;
 
 const OPAD: u8 = 0x5c;
 
-// H of two parts joined, zeros behind it.
-fn hashed(form: bool, m: u16, first: &[u8], second: &[u8]) -> [u8; 64]
-    requires { (allowed m ≡ true) × (length first.now + length second.now ≤ limit) }
-    ensures { result ≡ fill 64 (h_of m (first.now ++ second.now)) }
-{
-    let begun = digest::begin(form, m, b"");
-    let start = begun.state;
-    let one = digest::add(form, start, first);
-    let reached = one.state;
-    let two = digest::add(form, reached, second);
-    let all = two.state;
-    let mut out = [0u8; 64];
-    digest::finish(form, all, LastBits::none(), &mut out);
-    out
+// H of FIPS 198-1: the digest of m bits under the zero salt, in the form of the round that the caller names.
+#[derive(Clone, Copy)]
+pub(crate) struct Hash {
+    pub(crate) form: bool,
+    pub(crate) m: u16,
+    ghost known: { allowed m ≡ true },
 }
 
-// K0, zeros behind it.
-pub(crate) fn padded(form: bool, m: u16, key: &[u8]) -> [u8; 128]
-    requires { (allowed m ≡ true) × (length key.now ≤ limit) }
-    ensures { result ≡ fill 128 (K0 m key.now) }
-{
-    let mut block = [0u8; 128];
-    if key.len() > Family::of(m).block_bytes() {
-        let short = hashed(form, m, key, b"");
-        fields::put_bytes(&mut block, 0, &short);
-        return block;
+impl Hash {
+    // H of two parts joined, zeros behind it.
+    fn joined(self, first: &[u8], second: &[u8]) -> [u8; 64]
+        requires { length first.now + length second.now ≤ limit }
+        ensures { result ≡ fill 64 (h_of self.m (first.now ++ second.now)) }
+    {
+        let begun = digest::begin(self.form, self.m, b"");
+        let one = digest::add(self.form, begun.state, first);
+        let two = digest::add(self.form, one.state, second);
+        let mut out = [0u8; 64];
+        digest::finish(self.form, two.state, LastBits::none(), &mut out);
+        out
     }
-    fields::put_bytes(&mut block, 0, key);
-    block
-}
 
-// The inner state that has taken in K0 xored with ipad.
-pub(crate) fn opened(form: bool, m: u16, key: [u8; 128]) -> State
-    requires { allowed m ≡ true }
-    ensures { result ≡ state_of m [] (take (B m) key ⊕ ipad (B m)) }
-{
-    let begun = digest::begin(form, m, b"");
-    let start = begun.state;
-    let block = bytes::xored(key, IPAD);
-    let size = Family::of(m).block_bytes();
-    let step = digest::add(form, start, fields::part(&block, 0, size));
-    step.state
+    // K0, zeros behind it.
+    pub(crate) fn padded(self, key: &[u8]) -> [u8; 128]
+        requires { length key.now ≤ limit }
+        ensures { result ≡ fill 128 (K0 self.m key.now) }
+    {
+        if key.len() > Family::of(self.m).block_bytes() {
+            return fields::filled(&self.joined(key, b""));
+        }
+        fields::filled(key)
+    }
+
+    // The inner state that has taken in K0 xored with ipad.
+    pub(crate) fn opened(self, key: [u8; 128]) -> State
+        ensures { result ≡ state_of self.m [] (take (B self.m) key ⊕ ipad (B self.m)) }
+    {
+        let begun = digest::begin(self.form, self.m, b"");
+        let block = bytes::xored(key, IPAD);
+        let size = Family::of(self.m).block_bytes();
+        let step = digest::add(self.form, begun.state, fields::part(&block, 0, size));
+        step.state
+    }
 }
 
 // The tag of a consistent keyed state, zeros behind it.
@@ -67,17 +68,12 @@ pub(crate) fn tag_of(form: bool, keyed: Keyed) -> [u8; 64]
     requires { keyed_consistent keyed ≡ true }
     ensures { result ≡ fill 64 (state_tag keyed) }
 {
-    let inner = keyed.inner;
-    let m = inner.m;
+    let m = keyed.inner.m;
     let mut digest = [0u8; 64];
-    digest::finish(form, inner, LastBits::none(), &mut digest);
-    let key = keyed.key;
-    let block = bytes::xored(key, OPAD);
-    let family = inner.family;
-    let size = family.block_bytes();
-    hashed(
-        form,
-        m,
+    digest::finish(form, keyed.inner, LastBits::none(), &mut digest);
+    let block = bytes::xored(keyed.key, OPAD);
+    let size = keyed.inner.family.block_bytes();
+    Hash { form, m }.joined(
         fields::part(&block, 0, size),
         fields::part(&digest, 0, bits::digest_bytes(m)),
     )

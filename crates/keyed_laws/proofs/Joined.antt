@@ -7,8 +7,8 @@ use native.Mathlib.Omega.{arith}
 use lib.ListN.{length, length-append}
 use Rattle.family.specs.Family.{family_of}
 use Rattle.family.proofs.Sizes.{block_max}
-use Rattle.answers.specs.declared.refusal.Answer.{Answer}
-use Rattle.answers.specs.declared.refusal.Answer.TheVariants.{Accepted, Refused}
+use Rattle.answers.specs.Refusal.{Answer}
+use Rattle.std.specs.Prelude.{Ok, Err}
 use Rattle.answers.specs.Refusal.{if_accepted}
 use Rattle.state.specs.declared.State.{State}
 use Rattle.state.specs.State.{limit, allowed}
@@ -18,7 +18,7 @@ use Rattle.sequences.specs.Sequences as digest
 use Rattle.sequences.specs.Sequences.{after_call, after, taken, joined}
 use Rattle.sequences.proofs.Joined.{after_joined}
 use Rattle.keyed_state.specs.declared.Keyed.{Keyed}
-use Rattle.keyed.specs.declared.calls.Step.{Step}
+use Rattle.keyed.specs.Calls.{Step}
 use Rattle.keyed.specs.Hmac.{B, inner_text}
 use Rattle.keyed.specs.Running.{keyed_of}
 use Rattle.keyed.specs.Calls.{key_begin_answer, key_begin_of, key_add_answer, key_finish_of, key_check_of}
@@ -48,7 +48,7 @@ module _ (m : ℕ) (K : List ℕ) (ok : allowed m ≡ true) (whole : m % 8 ≡ 0
   call_joined xs room (add ys) =
       let k = keyed_of m K xs in
       let c = keyed_consistent_lem m K ok whole xs room in
-      ap (λ (r : Step). r.keyed) (sym (add_inner k ys c refl))
+      ap (λ (r : Step). r.state) (sym (add_inner k ys c refl))
       ∙ rw (add_answer_lem k ys c, inner_of m K xs) (keyed_grown m K xs _ (inner_joined m (inner_text m K xs) ys))
   call_joined xs room (finish out) = rw append-nil
   call_joined xs room (check tag) = rw append-nil
@@ -58,8 +58,8 @@ module _ (m : ℕ) (K : List ℕ) (ok : allowed m ≡ true) (whole : m % 8 ≡ 0
   call_room xs room (add ys) = by (key_add_answer (keyed_of m K xs) ys) refl
     where
       by : (a : Answer) → key_add_answer (keyed_of m K xs) ys ≡ a → B m + length (xs ++ if_accepted a ys []) ≤ limit
-      by Accepted h = rw length-append (omega (arith, covers m K ok xs, (keyed_accepted (keyed_of m K xs) ys h).1))
-      by (Refused r) h = rw append-nil room
+      by (Ok u) h = rw length-append (omega (arith, covers m K ok xs, (keyed_accepted (keyed_of m K xs) ys h).1))
+      by (Err r) h = rw append-nil room
   call_room xs room (finish out) = rw append-nil room
   call_room xs room (check tag) = rw append-nil room
 
@@ -76,13 +76,13 @@ module _ (m : ℕ) (K : List ℕ) (ok : allowed m ≡ true) (whole : m % 8 ≡ 0
   joined_room xs room (call ∷ calls) =
       rw (call_joined xs room call, ← append_assoc) (joined_room (xs ++ key_taken (keyed_of m K xs) call) (call_room xs room call) calls)
 
-module _ (m : ℕ) (K : List ℕ) (h : key_begin_answer m K ≡ Accepted) (calls : List KeyCall) where
+module _ (m : ℕ) (K : List ℕ) (h : key_begin_answer m K ≡ Ok tt) (calls : List KeyCall) where
   start : B m + 0 ≤ limit
   start = omega (arith, block_max (family_of m))
 
   -- After any calls from an accepted begin, the keyed state is that of m, key and the accepted bytes joined.
-  pub keyed_calls_joined : after_keyed (key_begin_of m K).keyed calls ≡ keyed_of m K (key_joined (key_begin_of m K).keyed calls)
+  pub keyed_calls_joined : after_keyed (key_begin_of m K).state calls ≡ keyed_of m K (key_joined (key_begin_of m K).state calls)
   keyed_calls_joined = rw (begin_keyed m K h) (after_keyed_joined m K (begun_allowed m K h) (begun_whole m K h) [] start calls)
 
-  pub keyed_joined_room : B m + length (key_joined (key_begin_of m K).keyed calls) ≤ limit
+  pub keyed_joined_room : B m + length (key_joined (key_begin_of m K).state calls) ≤ limit
   keyed_joined_room = rw (begin_keyed m K h) (joined_room m K (begun_allowed m K h) (begun_whole m K h) [] start calls)

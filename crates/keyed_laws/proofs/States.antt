@@ -10,7 +10,7 @@ use borrow.Author.Tests.{eqb-true, ltb-false}
 use Rattle.family.specs.Family.{family_of}
 use Rattle.family.proofs.Sizes.{block_max}
 use Rattle.answers.specs.declared.refusal.Refusal.TheVariants.{DigestLength, MessageLimit, StateInconsistent, KeyLong}
-use Rattle.answers.specs.declared.refusal.Answer.TheVariants.{Accepted}
+use Rattle.std.specs.Prelude.{Ok}
 use Rattle.answers.proofs.Tests.{and_left}
 use Rattle.bits.specs.Bits.{no_bits}
 use Rattle.state.specs.State.{limit, allowed}
@@ -31,7 +31,7 @@ use Rattle.keyed.proofs.Hmac.{k0_length}
 use Rattle.keyed.proofs.Answers.{tag_allowed}
 
 -- where a keyed add is accepted
-pub keyed_accepted : (k : Keyed) (xs : List ℕ) → key_add_answer k xs ≡ Accepted → (keyed_consistent k ≡ true) × (k.inner.covered.0 + length xs ≤ limit)
+pub keyed_accepted : (k : Keyed) (xs : List ℕ) → key_add_answer k xs ≡ Ok tt → (keyed_consistent k ≡ true) × (k.inner.covered.0 + length xs ≤ limit)
 unfolding key_add_answer
 keyed_accepted k xs h =
     let p = passed (keyed_consistent k) (ltb limit (k.inner.covered.0 + length xs)) StateInconsistent MessageLimit h in
@@ -62,7 +62,7 @@ module _ (m : ℕ) (K : List ℕ) (ok : allowed m ≡ true) where
     padded = zero_fill 128 (K0 m K) (B m) (omega (arith, k0_length m K ok));
   })
 
-module _ (m : ℕ) (K : List ℕ) (h : key_begin_answer m K ≡ Accepted) where
+module _ (m : ℕ) (K : List ℕ) (h : key_begin_answer m K ≡ Ok tt) where
   begun : (tag_length m ≡ true) × (length K ≤ key_limit)
   unfolding key_begin_answer
   begun =
@@ -76,12 +76,12 @@ module _ (m : ℕ) (K : List ℕ) (h : key_begin_answer m K ≡ Accepted) where
   unfolding tag_length
   begun_whole = eqb-true (m % 8) 0 (and_left (eqb (m % 8) 0) (allowed m) begun.0)
 
-  pub begin_keyed : (key_begin_of m K).keyed ≡ keyed_of m K []
+  pub begin_keyed : (key_begin_of m K).state ≡ keyed_of m K []
   unfolding key_begin_of
   begin_keyed = rw h
 
   -- An accepted begin hands back a consistent keyed state.
-  pub begin_consistent : keyed_consistent (key_begin_of m K).keyed ≡ true
+  pub begin_consistent : keyed_consistent (key_begin_of m K).state ≡ true
   begin_consistent = rw begin_keyed (keyed_consistent_lem m K begun_allowed begun_whole [] (omega (arith, block_max (family_of m))))
 
 -- A refused begin's is not consistent.
@@ -90,7 +90,7 @@ unfolding keyed_consistent zero_keyed
 zero_keyed_inconsistent = rw zero_inconsistent
 
 -- An accepted add hands back a consistent keyed state.
-pub add_consistent : (k : Keyed) → length k.inner.held ≡ 128 → (xs : List ℕ) → key_add_answer k xs ≡ Accepted → keyed_consistent (key_add_of k xs).keyed ≡ true
+pub add_consistent : (k : Keyed) → length k.inner.held ≡ 128 → (xs : List ℕ) → key_add_answer k xs ≡ Ok tt → keyed_consistent (key_add_of k xs).state ≡ true
 unfolding key_add_of absorbed
 add_consistent k full xs h =
     let p = keyed_accepted k xs h in

@@ -12,9 +12,9 @@ pub data KeyCall : Type 0 where
 
 -- the keyed state that a call hands back
 unfoldable pub after_key_call : Keyed → KeyCall → Keyed
-after_key_call k (add xs) = (key_add_of k xs).keyed
-after_key_call k (finish out) = (key_finish_of k out).keyed
-after_key_call k (check tag) = (key_check_of k tag).keyed
+after_key_call k (add xs) = (key_add_of k xs).state
+after_key_call k (finish out) = (key_finish_of k out).state
+after_key_call k (check tag) = (key_check_of k tag).state
 
 unfoldable pub after_keyed : Keyed → List KeyCall → Keyed
 after_keyed k [] = k

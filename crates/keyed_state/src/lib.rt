@@ -14,41 +14,28 @@ pub struct Keyed {
 }
 
 // Whether a tag can have m bits.
+#[tactic(auto, unfolding(crate::specs::Keyed::tag_length))]
 pub fn is_tag_length(m: u16) -> bool
     ensures { result ≡ tag_length m }
 {
-    if m % 8 != 0 {
-        return false;
-    }
-    state::is_allowed(m)
+    m % 8 == 0 && state::is_allowed(m)
 }
 
-// Whether a keyed state follows document 02's rule; add, finish and check refuse any other.
+// Whether a keyed state follows document 02's rule; add, finish and check refuse any other. Std has no `From` between usize and u64.
+#[tactic(auto, unfolding(crate::specs::Keyed::keyed_consistent))]
 pub fn consistent(keyed: Keyed) -> bool
     ensures { result ≡ keyed_consistent keyed }
 {
-    let inner = keyed.inner;
-    if !state::consistent(inner) {
-        return false;
-    }
-    if inner.m % 8 != 0 {
-        return false;
-    }
-    let salt = inner.salt;
-    if !state::zero_from(&salt, 0) {
-        return false;
-    }
-    let family = inner.family;
-    let size = family.block_bytes();
-    let covered = inner.covered;
-    if covered.0 < size as u64 {
-        return false;
-    }
-    let key = keyed.key;
-    state::zero_from(&key, size)
+    let size = keyed.inner.family.block_bytes();
+    state::consistent(keyed.inner)
+        && keyed.inner.m % 8 == 0
+        && state::zero_from(&keyed.inner.salt, 0)
+        && size as u64 <= keyed.inner.covered.0
+        && state::zero_from(&keyed.key, size)
 }
 
 // What a refused begin hands back: the all-zero keyed state.
+#[tactic(auto, unfolding(crate::specs::Keyed::zero_keyed))]
 pub fn zero_keyed() -> Keyed
     ensures { result ≡ zero_keyed }
 {

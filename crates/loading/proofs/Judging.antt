@@ -6,8 +6,8 @@ use native.Mathlib.Omega.{arith}
 use lib.ListN.{length}
 use borrow.Author.Tests.{lt-ltb, le-ltb, eq-eqb, ne_eqb}
 use Rattle.answers.specs.declared.refusal.Refusal.TheVariants.{FormExtent, FormCount}
-use Rattle.answers.specs.declared.refusal.Answer.{Answer}
-use Rattle.answers.specs.declared.refusal.Answer.TheVariants.{Accepted, Refused}
+use Rattle.answers.specs.Refusal.{Answer}
+use Rattle.std.specs.Prelude.{Ok, Err}
 use Rattle.answers.specs.Refusal.{judged, first_of}
 use Rattle.answers.proofs.Judged.{judged_first}
 use Rattle.family.specs.declared.Family.{Family}
@@ -18,29 +18,29 @@ use Rattle.saved_form.specs.Form.{salt_words, salt_place, chain_place, covered_p
 use Rattle.loading.specs.Reading.{family_in, rest_in, section_tests, family_tests, end_tests, form_tests}
 
 module _ (form : List ℕ) (i count size : ℕ) where
-  pub section_short : length form < i + 2 → Refused FormExtent ≡ judged (section_tests form i count size)
+  pub section_short : length form < i + 2 → Err FormExtent ≡ judged (section_tests form i count size)
   unfolding section_tests
   section_short h = rw (lt-ltb (length form) (i + 2) h)
 
   module _ (counted : i + 2 ≤ length form) {n : ℕ} (e : n ≡ number_at form i) where
-    pub section_unfit : (n ≡ count → ⊥) → Refused FormCount ≡ judged (section_tests form i count size)
+    pub section_unfit : (n ≡ count → ⊥) → Err FormCount ≡ judged (section_tests form i count size)
     unfolding section_tests
     section_unfit h = rw (le-ltb (length form) (i + 2) counted, ne_eqb (number_at form i) count (λ z. h (rw e z)))
 
-    pub section_cut : n ≡ count → length form < i + 2 + size → Refused FormExtent ≡ judged (section_tests form i count size)
+    pub section_cut : n ≡ count → length form < i + 2 + size → Err FormExtent ≡ judged (section_tests form i count size)
     unfolding section_tests
     section_cut h g = rw (le-ltb (length form) (i + 2) counted, eq-eqb (number_at form i) count (rw e at h), lt-ltb (length form) (i + 2 + size) g)
 
-    pub section_whole : n ≡ count → i + 2 + size ≤ length form → Accepted ≡ judged (section_tests form i count size)
+    pub section_whole : n ≡ count → i + 2 + size ≤ length form → (Ok tt) ≡ judged (section_tests form i count size)
     unfolding section_tests
     section_whole h g = rw (le-ltb (length form) (i + 2) counted, eq-eqb (number_at form i) count (rw e at h), le-ltb (length form) (i + 2 + size) g)
 
 module _ (form : List ℕ) {n : ℕ} (e : n ≡ number_at form 2) where
-  pub family_over : 1 < n → Refused FormCount ≡ judged (family_tests form)
+  pub family_over : 1 < n → Err FormCount ≡ judged (family_tests form)
   unfolding family_tests
   family_over h = rw (lt-ltb 1 (number_at form 2) (omega (arith, e)))
 
-  pub family_known : n ≤ 1 → Accepted ≡ judged (family_tests form)
+  pub family_known : n ≤ 1 → (Ok tt) ≡ judged (family_tests form)
   unfolding family_tests
   family_known h = rw (le-ltb 1 (number_at form 2) (omega (arith, e)))
 
@@ -53,11 +53,11 @@ module _ (form : List ℕ) {n : ℕ} (e : n ≡ number_at form 2) where
   family_large h = rw (ne_eqb (number_at form 2) 0 (λ z. h (rw e z)))
 
 module _ (form : List ℕ) {end place : ℕ} (e : place ≡ end) where
-  pub more_follows : place < length form → Refused FormExtent ≡ judged (end_tests form end)
+  pub more_follows : place < length form → Err FormExtent ≡ judged (end_tests form end)
   unfolding end_tests
   more_follows h = rw (lt-ltb end (length form) (omega (arith, e)))
 
-  pub nothing_follows : length form ≤ place → Accepted ≡ judged (end_tests form end)
+  pub nothing_follows : length form ≤ place → (Ok tt) ≡ judged (end_tests form end)
   unfolding end_tests
   nothing_follows h = rw (le-ltb end (length form) (omega (arith, e)))
 

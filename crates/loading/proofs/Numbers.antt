@@ -14,12 +14,12 @@ use Rattle.state.proofs.Filling.{fill_put}
 
 -- one byte more, in front of those read
 pub number_more : (l : List ℕ) (at count i : ℕ) → i < count
-    → number_in (i + 1) l (at + (count - (i + 1))) ≡ 256 * number_in i l (at + (count - i)) + get_or l (at + (count - 1 - i)) 0
+    → number_in (count - i) l (at + i) ≡ 256 * number_in (count - (i + 1)) l (at + (i + 1)) + get_or l (at + i) 0
 unfolding number_in
 number_more l at count i h =
-    let p : at + (count - suc i) ≡ at + (count - 1 - i) = omega arith in
-    let q : at + (count - 1 - i) + 1 ≡ at + (count - i) = omega arith in
-    rw (add-one i, p, q) (omega arith)
+    let p : count - i ≡ suc (count - (i + 1)) = omega arith in
+    let q : at + i + 1 ≡ at + (i + 1) = omega arith in
+    rw (p, q) (omega arith)
 
 -- fewer than eight bytes leave room for one more
 pub number_room : (l : List ℕ) → bytes l → (i at : ℕ) → i < 8 → number_in i l at < 2 ^ 56

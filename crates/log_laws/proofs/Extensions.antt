@@ -10,8 +10,6 @@ use lib.Dec.{ltb}
 use lib.ListN.{length}
 use borrow.Author.Tests.{ltb-false}
 use Rattle.log_answers.specs.declared.reading.Layout.{Layout}
-use Rattle.log_answers.specs.declared.reading.Reading.{Reading}
-use Rattle.log_answers.specs.declared.reading.Reading.TheVariants as reading
 use Rattle.log_answers.specs.Checked.{check_registers, check_events}
 use Rattle.layout.specs.Layout.{reading_of, events_of}
 use Rattle.records.specs.Events.{Event, event_list, digests_for, extensions}
@@ -23,6 +21,8 @@ use Rattle.bootlog.proofs.Logs.{events_below}
 use Rattle.bootlog.proofs.Verdicts.{check_answer, refused_answer}
 use Rattle.bootlog.proofs.Recorded.{recorded_number}
 use Rattle.log_laws.specs.Extensions.{total}
+use Rattle.std.specs.Prelude.{Result, Ok, Err}
+use Rattle.log_answers.specs.declared.reading.Fault.{Fault}
 
 total_same : (f g : ℕ → ℕ) (n : ℕ) → ((r : ℕ) → r < n → f r ≡ g r) → total f n ≡ total g n
 unfolding total
@@ -61,7 +61,7 @@ unfolding extensions digests_for
 extensions_join r [] missing = omega arith
 extensions_join r (e ∷ es) missing = omega (arith, extensions_more r e es, extensions_more r e (es ++ missing), extensions_join r es missing)
 
-module _ (log : List ℕ) (at : Layout) (e : reading_of log ≡ reading.Whole at) where
+module _ (log : List ℕ) (at : Layout) (e : reading_of log ≡ Ok at) where
   -- The extensions over all registers add up to N.
   pub log_total : total (λ r. extensions r (event_list at.events (events_of log at))) at.registers ≡ at.events
   log_total = total_events at.registers (event_list at.events (events_of log at)) (events_below log at e) ∙ event_count_lem at.events (events_of log at)
@@ -85,6 +85,6 @@ pub extensions_add_up : (log out : List ℕ)
 unfolding total
 extensions_add_up log out = by (reading_of log) refl
   where
-    by : (x : Reading) → reading_of log ≡ x → total (extensions_at (check_buffer log out)) (check_registers (check_of log (length out))) ≡ check_events (check_of log (length out))
-    by (reading.Refused r o) e = rw (← refused_answer log r o e (length out))
-    by (reading.Whole at) e = rw (← check_answer log at e (length out) refl) (accepted_total log at e out)
+    by : (x : Result Layout Fault) → reading_of log ≡ x → total (extensions_at (check_buffer log out)) (check_registers (check_of log (length out))) ≡ check_events (check_of log (length out))
+    by (Err f) e = rw (← refused_answer log f e (length out))
+    by (Ok at) e = rw (← check_answer log at e (length out) refl) (accepted_total log at e out)

@@ -9,11 +9,7 @@ use lib.Dec.{leb, ltb}
 use lib.ListN.{length, take, drop, get_or, set, length-set, length-take, length-drop}
 use lib.Seq.{get_or-take, get_or-drop, get_or-set_other, ext_get_or}
 use Rattle.answers.specs.declared.refusal.Refusal.TheVariants.{LogExtent, EventRegister}
-use Rattle.layout.specs.declared.End.{End}
-use Rattle.layout.specs.declared.End.TheVariants.{At, Refused}
 use Rattle.log_answers.specs.declared.reading.Layout.{Layout}
-use Rattle.log_answers.specs.declared.reading.Reading.{Reading}
-use Rattle.log_answers.specs.declared.reading.Reading.TheVariants as reading
 use Rattle.fields.specs.Fields.{number_in, number_at}
 use Rattle.layout.specs.Layout.{end_after, and_then, reads, section_end, salt_end, registers_end, events_end, event_section_end, claims_end, reading_of}
 use Rattle.layout.specs.Layout.{salt_of, starts_of, events_of, claims_of}
@@ -27,18 +23,20 @@ use Rattle.records.proofs.Banks.{records_equal}
 use Rattle.bootlog.proofs.Logs.{event_cons, log_blocks}
 use Rattle.bootlog.proofs.Verdicts.{check_answer, check_buffer_lem, refused_answer, refused_buffer}
 use Rattle.log_laws.specs.Labels.{third_at, LabelByte, LabelsOnly}
+use Rattle.std.specs.Prelude.{Result, Ok, Err}
+use Rattle.log_answers.specs.declared.reading.Fault.{Fault}
 
 -- what follows a section matters only where that section ends
-reads_same : {p q : End} (f g : ℕ → Reading) → p ≡ q → ((i : ℕ) → p ≡ At i → f i ≡ g i) → reads p f ≡ reads q g
-reads_same {p = At i} f g e h = rw (← e) (h i refl)
-reads_same {p = Refused r o} f g e h = rw (← e)
+reads_same : {p q : Result ℕ Fault} (f g : ℕ → Result Layout Fault) → p ≡ q → ((i : ℕ) → p ≡ Ok i → f i ≡ g i) → reads p f ≡ reads q g
+reads_same {p = Ok i} f g e h = rw (← e) (h i refl)
+reads_same {p = Err x} f g e h = rw (← e)
 
-then_same : {p q : End} (f g : ℕ → End) → p ≡ q → ((i : ℕ) → p ≡ At i → f i ≡ g i) → and_then p f ≡ and_then q g
-then_same {p = At i} f g e h = rw (← e) (h i refl)
-then_same {p = Refused r o} f g e h = rw (← e)
+then_same : {p q : Result ℕ Fault} (f g : ℕ → Result ℕ Fault) → p ≡ q → ((i : ℕ) → p ≡ Ok i → f i ≡ g i) → and_then p f ≡ and_then q g
+then_same {p = Ok i} f g e h = rw (← e) (h i refl)
+then_same {p = Err x} f g e h = rw (← e)
 
 -- and what follows an event only behind it
-next_same : (s t : Bool) (size i : ℕ) (f g : ℕ → End) → f (i + 36) ≡ g (i + 36)
+next_same : (s t : Bool) (size i : ℕ) (f g : ℕ → Result ℕ Fault) → f (i + 36) ≡ g (i + 36)
     → and_then (end_after ((s, LogExtent, size) ∷ (t, EventRegister, i) ∷ []) (i + 36)) f
     ≡ and_then (end_after ((s, LogExtent, size) ∷ (t, EventRegister, i) ∷ []) (i + 36)) g
 next_same true t size i f g h = refl
@@ -47,11 +45,11 @@ next_same false false size i f g h = h
 
 module _ (log : List ℕ) where
   -- the places of the second count and the third
-  salt_place_lem : (j : ℕ) → salt_end log ≡ At j → j ≡ 2 + number_at log 0
+  salt_place_lem : (j : ℕ) → salt_end log ≡ Ok j → j ≡ 2 + number_at log 0
   unfolding salt_end
   salt_place_lem j e = omega (arith, (section log 0 _ 1 j e).end)
 
-  registers_place : (i j : ℕ) → registers_end log i ≡ At j → j ≡ i + 2 + 32 * number_at log i
+  registers_place : (i j : ℕ) → registers_end log i ≡ Ok j → j ≡ i + 2 + 32 * number_at log i
   unfolding registers_end
   registers_place i j e = sym (section log i _ 32 j e).end
 
@@ -161,7 +159,7 @@ module _ (log log' : List ℕ) (d : LabelsOnly log log') where
       rw (event_cons log n i, event_cons log' n i, extensions_more r (event_at log i), extensions_more r (event_at log' i), register_same k, z, extensions_same r n (suc k))
 
   -- the sections of a log that was read, and what the check makes of them
-  module _ (at : Layout) (e : reading_of log ≡ reading.Whole at) (e' : reading_of log' ≡ reading.Whole at) where
+  module _ (at : Layout) (e : reading_of log ≡ Ok at) (e' : reading_of log' ≡ Ok at) where
     third_read : at.third ≡ third_at log
     third_read =
         let c = counts log at e in
@@ -205,11 +203,11 @@ pub labels_check : (log log' : List ℕ) → LabelsOnly log log' → (out : List
     → (check_of log (length out) ≡ check_of log' (length out)) × (check_buffer log out ≡ check_buffer log' out)
 labels_check log log' d out = by (reading_of log') (labels_reading log log' d) refl
   where
-    by : (r : Reading) → reading_of log ≡ r → reading_of log' ≡ r
+    by : (r : Result Layout Fault) → reading_of log ≡ r → reading_of log' ≡ r
         → (check_of log (length out) ≡ check_of log' (length out)) × (check_buffer log out ≡ check_buffer log' out)
-    by (reading.Refused r o) e e' =
-        (sym (refused_answer log r o e (length out)) ∙ refused_answer log' r o e' (length out), sym (refused_buffer log r o e out) ∙ refused_buffer log' r o e' out)
-    by (reading.Whole at) e e' = (
+    by (Err f) e e' =
+        (sym (refused_answer log f e (length out)) ∙ refused_answer log' f e' (length out), sym (refused_buffer log f e out) ∙ refused_buffer log' f e' out)
+    by (Ok at) e e' = (
       sym (check_answer log at e (length out) refl) ∙ check_answer log' at e' (length out) (checked_same log log' d at e e' (length out)),
       check_buffer_lem log' at e' out (rw (records_same log log' d at e e') at (sym (check_buffer_lem log at e out refl))),
     )

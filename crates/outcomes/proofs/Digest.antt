@@ -2,22 +2,22 @@
 use mathlib.Core.Path.{◌≡◌}
 use mathlib.Core.Bool.{Bool, cond}
 use mathlib.Core.List.{List, ◌++◌}
-use Prim.Native.Nat.{ℕ}
+use Prim.Native.Nat.{ℕ, ◌%◌}
 use lib.Dec.{eqb, leb}
 use lib.ListN.{drop}
 use lib.Seq.{sets}
 use Rattle.outcome.specs.Outcome.{OneOutcome}
 use Rattle.outcome.proofs.Outcome.{one, one_pair}
 use Rattle.family.specs.declared.Family.{Family}
-use Rattle.family.specs.Family.{pad_limit, length_place, length_bytes}
+use Rattle.family.specs.Family.{block_bytes, pad_limit, length_place, length_bytes}
 use Rattle.fields.specs.Fields.{le, bytes_of}
 use Rattle.bits.specs.declared.LastBits.{LastBits}
 use Rattle.bits.specs.Bits.{first_bits}
 use Rattle.bits.specs.Message.{Message}
 use Rattle.state.specs.declared.State.{State}
-use Rattle.digest.specs.declared.calls.Step.{Step}
-use Rattle.reports.specs.declared.Report.{Report}
-use Rattle.finishing.specs.declared.Finished.{Finished}
+use Rattle.digest.specs.Calls.{Step}
+use Rattle.reports.specs.Report.{Report}
+use Rattle.finishing.specs.Finish.{Finished}
 use Rattle.state.specs.Bytes.{all_zero}
 use Rattle.state.specs.State.{allowed, consistent_of, zero_state}
 use Rattle.digest.specs.Calls.{begin_of, add_of, one_shot_of, one_shot_buffer}
@@ -60,6 +60,10 @@ consistent_one s = one (consistent_of s)
 
 pub allowed_one : (m : ℕ) → OneOutcome (λ (r : Bool). r ≡ allowed m)
 allowed_one m = one (allowed m)
+
+-- `held_bytes`
+pub held_bytes_one : (f : Family) (covered : ℕ) → OneOutcome (λ (r : ℕ). r ≡ covered % block_bytes f)
+held_bytes_one f covered = one (covered % block_bytes f)
 
 -- `zero_from`
 pub zero_from_one : (xs : List ℕ) (at : ℕ) → OneOutcome (λ (r : Bool). r ≡ all_zero (drop at xs))

@@ -3,7 +3,7 @@ use mathlib.Core.Path.{◌≡◌}
 use mathlib.Core.Bool.{Bool}
 use mathlib.Core.List.{List}
 use Prim.Native.Nat.{ℕ, ◌<◌}
-use lib.ListN.{get_or, take, drop}
+use lib.ListN.{get_or, take, drop, replicate}
 use lib.Seq.{sets}
 use Rattle.outcome.specs.Outcome.{OneOutcome}
 use Rattle.outcome.proofs.Outcome.{one}
@@ -29,6 +29,10 @@ put_number_one out at count value = one (sets out at (le count value))
 -- `put_bytes`
 pub put_bytes_one : (out : List ℕ) (at : ℕ) (bytes : List ℕ) → OneOutcome (λ (b : List ℕ). b ≡ sets out at bytes)
 put_bytes_one out at bytes = one (sets out at bytes)
+
+-- `filled`
+pub filled_one : (n : ℕ) (bytes : List ℕ) → OneOutcome (λ (b : List ℕ). b ≡ sets (replicate n 0) 0 bytes)
+filled_one n bytes = put_bytes_one (replicate n 0) 0 bytes
 
 -- `put_words`
 pub put_words_one : (out : List ℕ) (at : ℕ) (words : List ℕ) → OneOutcome (λ (b : List ℕ). b ≡ sets out at (bytes_of words))

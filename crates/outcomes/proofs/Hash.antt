@@ -3,11 +3,12 @@ use mathlib.Core.Path.{◌≡◌}
 use mathlib.Core.List.{List}
 use Prim.Native.Nat.{ℕ, ◌+◌, ◌/◌}
 use lib.ListN.{length, replicate}
+use lib.Seq.{sets}
 use Rattle.outcome.specs.Outcome.{OneOutcome}
 use Rattle.outcome.proofs.Outcome.{one}
 use Rattle.sbox.specs.Sbox.{sbox_of}
 use Rattle.aes.specs.Round.{aes_round}
-use Rattle.words.specs.Words.{from_bytes, xor4, round_of}
+use Rattle.words.specs.Words.{from_bytes, word_at, four_at, xor4, round_of}
 use Rattle.tables.specs.Tables.{round_tables, round_by}
 use Rattle.family.specs.declared.Family.{Family}
 use Rattle.family.specs.Family.{family_of, block_bytes}
@@ -32,6 +33,17 @@ round_one state subkey = one (aes_round state subkey)
 pub word_one : (b0 b1 b2 b3 : ℕ) → OneOutcome (λ (r : ℕ). r ≡ from_bytes b0 b1 b2 b3)
 word_one b0 b1 b2 b3 = one (from_bytes b0 b1 b2 b3)
 
+-- `word_of`
+pub word_of_one : (bytes : List ℕ) → OneOutcome (λ (r : ℕ). r ≡ word_at bytes 0)
+word_of_one bytes = one (word_at bytes 0)
+
+-- `quad`, and what `put` leaves
+pub quad_one : (w : List ℕ) → OneOutcome (λ (r : List ℕ). r ≡ four_at w 0)
+quad_one w = one (four_at w 0)
+
+pub put_one : (w x : List ℕ) → OneOutcome (λ (r : List ℕ). r ≡ sets w 0 x)
+put_one w x = one (sets w 0 x)
+
 -- `xored`
 pub xored_one : (x y : List ℕ) → OneOutcome (λ (r : List ℕ). r ≡ xor4 x y)
 xored_one x y = one (xor4 x y)
@@ -40,7 +52,7 @@ xored_one x y = one (xor4 x y)
 pub aes_round_one : (x key : List ℕ) → OneOutcome (λ (r : List ℕ). r ≡ round_of x key)
 aes_round_one x key = one (round_of x key)
 
--- `tables::all`, and `tables::round`
+-- `tables::lent`, `tables::all`, and `tables::round`
 pub tables_one : OneOutcome (λ (r : List ℕ). r ≡ round_tables)
 tables_one = one round_tables
 

@@ -5,14 +5,14 @@ use mathlib.Core.List.{List}
 use Prim.Native.Nat.{ℕ}
 use Rattle.outcome.specs.Outcome.{OneOutcome}
 use Rattle.outcome.proofs.Outcome.{one, one_pair}
-use Rattle.tag_answers.specs.declared.tagged.Tagged.{Tagged}
-use Rattle.tag_answers.specs.declared.check.TagCheck.{TagCheck}
+use Rattle.tag_answers.specs.Tagged.{Tagged}
+use Rattle.tag_answers.specs.TagCheck.{TagCheck}
 use Rattle.tag_answers.specs.TagCheck.{tag_check_number, tag_check_yes}
 use Rattle.keyed_state.specs.declared.Keyed.{Keyed}
 use Rattle.keyed_state.specs.Keyed.{tag_length, keyed_consistent, zero_keyed}
-use Rattle.keyed.specs.declared.calls.Step.{Step}
-use Rattle.keyed.specs.declared.calls.Finished.{Finished}
-use Rattle.keyed.specs.declared.calls.Compared.{Compared}
+use Rattle.keyed.specs.Calls.{Step}
+use Rattle.keyed.specs.Calls.{Finished}
+use Rattle.keyed.specs.Calls.{Compared}
 use Rattle.keyed.specs.Calls.{key_begin_of, key_add_of, key_finish_of, key_finish_buffer, key_check_of}
 
 -- `number` and `covered` of what a keyed finish reports

@@ -5,8 +5,8 @@ use Prim.Native.Nat.{ℕ}
 use Rattle.outcome.specs.Outcome.{OneOutcome}
 use Rattle.outcome.proofs.Outcome.{one, one_pair}
 use Rattle.state.specs.declared.State.{State}
-use Rattle.digest.specs.declared.calls.Step.{Step}
-use Rattle.saving.specs.declared.Saved.{Saved}
+use Rattle.digest.specs.Calls.{Step}
+use Rattle.saving.specs.Calls.{Saved}
 use Rattle.saving.specs.Calls.{save_of, save_buffer}
 use Rattle.loading.specs.Calls.{load_of}
 

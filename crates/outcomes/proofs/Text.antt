@@ -5,12 +5,12 @@ use Prim.Native.Nat.{ℕ}
 use lib.ListN.{length, take}
 use Rattle.outcome.specs.Outcome.{OneOutcome}
 use Rattle.outcome.proofs.Outcome.{one, one_pair}
-use Rattle.answers.specs.declared.written.Written.{Written}
+use Rattle.answers.specs.Written.{Written}
 use Rattle.text.specs.Digits.{hex_of, upper_of, decimal_of}
 use Rattle.text.specs.Place.{placed, place_after}
-use Rattle.hex_bytes.specs.declared.Decoded.{Decoded}
+use Rattle.std.specs.Prelude.{Result, Option}
+use Rattle.hex_bytes.specs.declared.HexError.{HexError}
 use Rattle.hex_bytes.specs.Hex.{decode_of, decode_buffer}
-use Rattle.decimal.specs.declared.Number.{Number}
 use Rattle.decimal.specs.Decimal.{number_of}
 use Rattle.printout.specs.Printout.{printout_of, print_of}
 
@@ -39,7 +39,7 @@ pub first_one : (bytes : List ℕ) (n : ℕ) → OneOutcome (λ (r : List ℕ). 
 first_one bytes n = one (take n bytes)
 
 -- `decimal::read`
-pub number_read_one : (text : List ℕ) → OneOutcome (λ (r : Number). r ≡ number_of text)
+pub number_read_one : (text : List ℕ) → OneOutcome (λ (r : Option ℕ). r ≡ number_of text)
 number_read_one text = one (number_of text)
 
 -- `print`
@@ -47,5 +47,5 @@ pub print_one : (log out : List ℕ) → OneOutcome (λ (o : Written × List ℕ
 print_one log out = one_pair (print_of log (length out)) (placed out 0 (printout_of log))
 
 -- `decode`
-pub decode_one : (text out : List ℕ) → OneOutcome (λ (o : Decoded × List ℕ). (o.0 ≡ decode_of text (length out)) × (o.1 ≡ decode_buffer text out))
+pub decode_one : (text out : List ℕ) → OneOutcome (λ (o : Result ℕ HexError × List ℕ). (o.0 ≡ decode_of text (length out)) × (o.1 ≡ decode_buffer text out))
 decode_one text out = one_pair (decode_of text (length out)) (decode_buffer text out)

@@ -17,7 +17,7 @@ pub fn last_counter(rest: u64, bits: u64) -> u64
     if rest == 0 { 0 } else { bits }
 }
 
-// Whether the length and m fit into the block behind so many bits of rest and the 1 bit.
+// Whether the length and m fit into the block behind so many bits of rest and the 1 bit. Std has no `From` between usize and u64.
 pub fn ends_in_one(family: Family, rest: u64) -> bool
     ensures { result ≡ leb rest (pad_limit family) }
 {
@@ -34,16 +34,18 @@ fn put_le(block: [u8; 128], at: usize, value: u64, count: usize) -> [u8; 128]
 }
 
 // Puts the message length in bits and m at a block's end.
+#[tactic(auto, using(crate::proofs::Stores::length_stored, family::proofs::Sizes::block_max, family::proofs::Sizes::sizes))]
 pub fn with_length(block: [u8; 128], family: Family, bits: u64, m: u16) -> [u8; 128]
     ensures { result ≡ sets block (length_place family) (le (length_bytes family) bits ++ le 2 m) }
 {
     let at = family.length_place();
     let field = family.length_bytes();
     let first = put_le(block, at, bits, field);
-    put_le(first, at + field, m as u64, 2)
+    put_le(first, at + field, u64::from(m), 2)
 }
 
 // The bytes of a chain.
+#[tactic(auto, using(crate::proofs::Stores::spelled))]
 fn spell(chain: [u32; 16]) -> [u8; 64]
     ensures { result ≡ bytes_of chain }
 {
@@ -53,6 +55,7 @@ fn spell(chain: [u32; 16]) -> [u8; 64]
 }
 
 // Puts the first m bits of a chain at the front of a buffer, as far as there is room; the rest of the buffer stays.
+#[tactic(auto, unfolding(bits::specs::Bits::first_bits))]
 pub fn put_digest(chain: [u32; 16], m: u16, out: &mut [u8])
     ensures { out.new ≡ sets out.old 0 (first_bits m (bytes_of chain)) }
 {

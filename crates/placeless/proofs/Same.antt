@@ -7,24 +7,36 @@ use native.Mathlib.Omega.{arith}
 use lib.Dec.{eqb, leb, ltb}
 use lib.ListN.{length, drop, replicate}
 use Rattle.answers.specs.declared.refusal.Refusal.TheVariants.{BufferShort, LogExtent, SectionCount, EventRegister}
-use Rattle.answers.specs.declared.refusal.Answer.TheVariants as answer
+use Rattle.std.specs.Prelude.{None, Result, Ok, Err}
 use Rattle.answers.specs.Refusal.{judged}
-use Rattle.log_answers.specs.declared.place.Place.TheVariants as place
 use Rattle.log_answers.specs.declared.reading.Layout.{Layout}
-use Rattle.log_answers.specs.declared.reading.Reading.{Reading}
-use Rattle.log_answers.specs.declared.reading.Reading.TheVariants as reading
+use Rattle.log_answers.specs.declared.reading.Fault.{Fault}
+use Rattle.log_answers.specs.Reading.{fault}
 use Rattle.log_answers.specs.declared.checked.Verdict.{Verdict}
-use Rattle.log_answers.specs.declared.checked.Checked.{Checked}
-use Rattle.log_answers.specs.declared.checked.Checked.TheVariants as checked
+use Rattle.log_answers.specs.declared.checked.Findings.{Findings}
+use Rattle.log_answers.specs.declared.checked.Refused.{Refused}
+use Rattle.log_answers.specs.Checked.{refused_by}
 use Rattle.fields.specs.Fields.{number_at}
-use Rattle.layout.specs.declared.End.{End}
-use Rattle.layout.specs.declared.End.TheVariants as end
 use Rattle.layout.specs.Layout.{end_after, and_then, reads, section_end, events_end, salt_end, registers_end, event_section_end, claims_end, layout_at, reading_of}
-use Rattle.layout.proofs.Readings.{from_end, from_claims, from_events, from_registers}
+use Rattle.layout.proofs.Readings.{at_end}
 use Rattle.bootlog.specs.Check.{log_records, checked_at, check_of, check_buffer}
 use Rattle.printout.specs.Printout.{text_of, printout_of}
 use Rattle.placeless.specs.Forgotten.{forget_end, forget_reading, forget_checked}
 use Rattle.placeless.specs.Before.{EndBefore, stopped, ReadingBefore, whole, unread, accepted, refused, end_if, section_before, events_before, and_then_before, reads_before, reading_before, checked_before, check_before, buffer_before, text_before, printout_before}
+
+-- the reading from each section on
+module _ (log : List ℕ) where
+  abbrev from_end : ℕ → ℕ → ℕ → ℕ → Result Layout Fault
+  from_end second third fourth end = at_end log second third fourth end (eqb (length log) end)
+
+  abbrev from_claims : ℕ → ℕ → ℕ → Result Layout Fault
+  from_claims second third fourth = reads (claims_end log (number_at log second) fourth) (from_end second third fourth)
+
+  abbrev from_events : ℕ → ℕ → Result Layout Fault
+  from_events second third = reads (event_section_end log (number_at log second) third) (from_claims second third)
+
+  abbrev from_registers : ℕ → Result Layout Fault
+  from_registers second = reads (registers_end log second) (from_events second)
 
 module _ (log : List ℕ) where
   section_before_lem : (i : ℕ) (allowed : Bool) (size : ℕ) → forget_end (section_end log i allowed size) ≡ section_before log i allowed size
@@ -45,23 +57,23 @@ module _ (log : List ℕ) where
     where
       by : (s t : Bool) → forget_end (events_end log registers (i + 36) n) ≡ events_before log registers (i + 36) n
           → forget_end (and_then (end_after ((s, LogExtent, length log) ∷ (t, EventRegister, i) ∷ []) (i + 36)) (λ next. events_end log registers next n))
-          ≡ elim (judged ((s, LogExtent) ∷ (t, EventRegister) ∷ [])) [ answer.Accepted ↦ events_before log registers (i + 36) n | answer.Refused r ↦ stopped r ]
+          ≡ elim (judged ((s, LogExtent) ∷ (t, EventRegister) ∷ [])) [ Ok u ↦ events_before log registers (i + 36) n | Err r ↦ stopped r ]
       by true t h = refl
       by false true h = refl
       by false false h = h
 
-  then_before : (p : End) (q : EndBefore) (f : ℕ → End) (g : ℕ → EndBefore) → forget_end p ≡ q → ((i : ℕ) → forget_end (f i) ≡ g i)
+  then_before : (p : Result ℕ Fault) (q : EndBefore) (f : ℕ → Result ℕ Fault) (g : ℕ → EndBefore) → forget_end p ≡ q → ((i : ℕ) → forget_end (f i) ≡ g i)
       → forget_end (and_then p f) ≡ and_then_before q g
-  then_before (end.At i) q f g e h = rw (← e) (h i)
-  then_before (end.Refused r o) q f g e h = rw (← e)
+  then_before (Ok i) q f g e h = rw (← e) (h i)
+  then_before (Err x) q f g e h = rw (← e)
 
-  reads_before_lem : (p : End) (q : EndBefore) (f : ℕ → Reading) (g : ℕ → ReadingBefore) → forget_end p ≡ q → ((i : ℕ) → forget_reading (f i) ≡ g i)
+  reads_before_lem : (p : Result ℕ Fault) (q : EndBefore) (f : ℕ → Result Layout Fault) (g : ℕ → ReadingBefore) → forget_end p ≡ q → ((i : ℕ) → forget_reading (f i) ≡ g i)
       → forget_reading (reads p f) ≡ reads_before q g
-  reads_before_lem (end.At i) q f g e h = rw (← e) (h i)
-  reads_before_lem (end.Refused r o) q f g e h = rw (← e)
+  reads_before_lem (Ok i) q f g e h = rw (← e) (h i)
+  reads_before_lem (Err x) q f g e h = rw (← e)
 
   end_before : (l : Layout) (j : ℕ) (t : Bool)
-      → forget_reading (elim t [ true ↦ reading.Whole l | false ↦ reading.Refused LogExtent j ]) ≡ elim t [ true ↦ whole l | false ↦ unread LogExtent ]
+      → forget_reading (elim t [ true ↦ Ok l | false ↦ Err (fault LogExtent j) ]) ≡ elim t [ true ↦ whole l | false ↦ unread LogExtent ]
   end_before l j true = refl
   end_before l j false = refl
 
@@ -82,15 +94,14 @@ module _ (log : List ℕ) where
   unfolding check_of check_before checked_at checked_before
   check_before_lem room = rw (← reading_before_lem, check_before) (by (reading_of log))
     where
-      fits : (t : Bool) (r n b : ℕ) (v : Verdict)
-          → forget_checked (cond t (checked.Refused BufferShort place.Nowhere) (checked.Accepted r n b v)) ≡ cond t (refused BufferShort) (accepted r n b v)
-      fits true r n b v = refl
-      fits false r n b v = refl
+      fits : (t : Bool) (f : Findings) → forget_checked (cond t (Err (record { refusal = BufferShort; place = None })) (Ok f)) ≡ cond t (refused BufferShort) (accepted f.registers f.events f.blocks f.verdict)
+      fits true f = refl
+      fits false f = refl
 
-      by : (x : Reading) → forget_checked (elim x [ reading.Whole l ↦ checked_at log l room | reading.Refused r o ↦ checked.Refused r (place.At o) ])
+      by : (x : Result Layout Fault) → forget_checked (elim x [ Ok l ↦ checked_at log l room | Err f ↦ Err (refused_by f) ])
           ≡ elim (forget_reading x) [ whole l ↦ checked_before log l room | unread r ↦ refused r ]
-      by (reading.Whole l) = fits (ltb room (34 * l.registers)) _ _ _ _
-      by (reading.Refused r o) = refl
+      by (Ok l) = fits (ltb room (34 * l.registers)) _
+      by (Err f) = refl
 
   -- and the check's buffer is what it was.
   pub buffer_before_lem : (out : List ℕ) → check_buffer log out ≡ buffer_before log out
@@ -100,23 +111,24 @@ module _ (log : List ℕ) where
       made : Layout → List ℕ
       made l = cond (ltb (length out) (34 * l.registers)) out (log_records log l ++ drop (34 * l.registers) out)
 
-      by : (x : Reading) → ◌≡◌ {A = List ℕ} (elim x [ reading.Whole l ↦ made l | reading.Refused r o ↦ out ]) (elim (forget_reading x) [ whole l ↦ made l | unread r ↦ out ])
-      by (reading.Whole l) = refl
-      by (reading.Refused r o) = refl
+      by : (x : Result Layout Fault) → ◌≡◌ {A = List ℕ} (elim x [ Ok l ↦ made l | Err f ↦ out ]) (elim (forget_reading x) [ whole l ↦ made l | unread r ↦ out ])
+      by (Ok l) = refl
+      by (Err f) = refl
 
   -- No accepted log's answer changes, nor its text.
-  pub accepted_before : (room r n b : ℕ) (v : Verdict) → check_before log room ≡ accepted r n b v → check_of log room ≡ checked.Accepted r n b v
+  pub accepted_before : (room r n b : ℕ) (v : Verdict) → check_before log room ≡ accepted r n b v
+      → check_of log room ≡ Ok (record { registers = r; events = n; blocks = b; verdict = v })
   accepted_before room r n b v e = by (check_of log room) (check_before_lem room ∙ e)
     where
-      by : (c : Checked) → forget_checked c ≡ accepted r n b v → c ≡ checked.Accepted r n b v
-      by (checked.Refused x p) h = let z : ◌≡◌ {A = ℕ} 0 1 = cc in absurd (omega arith)
-      by (checked.Accepted r' n' b' v') h =
-          let e₁ : r' ≡ r = cc in
-          let e₂ : n' ≡ n = cc in
-          let e₃ : b' ≡ b = cc in
-          let e₄ : v' ≡ v = cc in
-          rw (e₁, e₂, e₃, e₄)
+      by : (c : Result Findings Refused) → forget_checked c ≡ accepted r n b v → c ≡ Ok (record { registers = r; events = n; blocks = b; verdict = v })
+      by (Err x) h = let z : ◌≡◌ {A = ℕ} 0 1 = cc in absurd (omega arith)
+      by (Ok f) h =
+          let e₁ : f.registers ≡ r = cc in
+          let e₂ : f.events ≡ n = cc in
+          let e₃ : f.blocks ≡ b = cc in
+          let e₄ : f.verdict ≡ v = cc in
+          rw (← e₁, ← e₂, ← e₃, ← e₄) refl
 
-  pub text_before_lem : {r n b : ℕ} {v : Verdict} → check_of log 816 ≡ checked.Accepted r n b v → printout_of log ≡ printout_before log
+  pub text_before_lem : {f : Findings} → check_of log 816 ≡ Ok f → printout_of log ≡ printout_before log
   unfolding printout_of printout_before text_of text_before
   text_before_lem e = rw (← check_before_lem 816, ← buffer_before_lem (replicate 816 0), e)

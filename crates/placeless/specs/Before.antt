@@ -2,8 +2,8 @@
 use Rattle.std.specs.Prelude.{Bool, true, false, not, cond, List, [], ◌∷◌, ◌++◌, ℕ, zero, suc, ◌+◌, ◌*◌, eqb, leb, ltb, length, drop, replicate}
 use Rattle.answers.specs.declared.refusal.Refusal.{Refusal}
 use Rattle.answers.specs.declared.refusal.Refusal.TheVariants.{BufferShort, LogExtent, SectionCount, EventRegister}
-use Rattle.answers.specs.declared.refusal.Answer.{Answer}
-use Rattle.answers.specs.declared.refusal.Answer.TheVariants.{Accepted, Refused}
+use Rattle.answers.specs.Refusal.{Answer}
+use Rattle.std.specs.Prelude.{Ok, Err}
 use Rattle.answers.specs.Refusal.{refusal_number, judged}
 use Rattle.log_answers.specs.declared.reading.Layout.{Layout}
 use Rattle.log_answers.specs.declared.checked.Verdict.{Verdict}
@@ -30,8 +30,8 @@ pub data CheckedBefore : Type 0 where
 
 -- the end where the tests accept, else the refusal
 abbrev pub end_if : Answer → ℕ → EndBefore
-end_if Accepted i = ended i
-end_if (Refused r) i = stopped r
+end_if (Ok u) i = ended i
+end_if (Err r) i = stopped r
 
 -- Where the section that starts at i ends: its count, whether it is allowed, and the bytes of one of its parts.
 unfoldable pub section_before : List ℕ → ℕ → Bool → ℕ → EndBefore
@@ -47,8 +47,8 @@ unfoldable pub events_before : List ℕ → ℕ → ℕ → ℕ → EndBefore
 events_before log registers i zero = ended i
 events_before log registers i (suc n) =
     elim (judged ((ltb (length log) (i + 36), LogExtent) ∷ (leb registers (number_at log i), EventRegister) ∷ [])) [
-      | Accepted ↦ events_before log registers (i + 36) n
-      | Refused r ↦ stopped r
+      | Ok u ↦ events_before log registers (i + 36) n
+      | Err r ↦ stopped r
     ]
 
 abbrev pub and_then_before : EndBefore → (ℕ → EndBefore) → EndBefore

@@ -1,20 +1,19 @@
 -- Answers of today without the place of a refusal.
-use Rattle.log_answers.specs.declared.reading.Reading.{Reading}
-use Rattle.log_answers.specs.declared.reading.Reading.TheVariants as reading
-use Rattle.log_answers.specs.declared.checked.Checked.{Checked}
-use Rattle.log_answers.specs.declared.checked.Checked.TheVariants as checked
-use Rattle.layout.specs.declared.End.{End}
-use Rattle.layout.specs.declared.End.TheVariants as end
+use Rattle.std.specs.Prelude.{ℕ, Result, Ok, Err}
+use Rattle.log_answers.specs.declared.reading.Layout.{Layout}
+use Rattle.log_answers.specs.declared.reading.Fault.{Fault}
+use Rattle.log_answers.specs.declared.checked.Findings.{Findings}
+use Rattle.log_answers.specs.declared.checked.Refused.{Refused}
 use Rattle.placeless.specs.Before.{EndBefore, ended, stopped, ReadingBefore, whole, unread, CheckedBefore, accepted, refused}
 
-abbrev pub forget_end : End → EndBefore
-forget_end (end.At i) = ended i
-forget_end (end.Refused r o) = stopped r
+abbrev pub forget_end : Result ℕ Fault → EndBefore
+forget_end (Ok i) = ended i
+forget_end (Err f) = stopped f.refusal
 
-abbrev pub forget_reading : Reading → ReadingBefore
-forget_reading (reading.Whole l) = whole l
-forget_reading (reading.Refused r o) = unread r
+abbrev pub forget_reading : Result Layout Fault → ReadingBefore
+forget_reading (Ok l) = whole l
+forget_reading (Err f) = unread f.refusal
 
-abbrev pub forget_checked : Checked → CheckedBefore
-forget_checked (checked.Accepted r n b v) = accepted r n b v
-forget_checked (checked.Refused x p) = refused x
+abbrev pub forget_checked : Result Findings Refused → CheckedBefore
+forget_checked (Ok f) = accepted f.registers f.events f.blocks f.verdict
+forget_checked (Err x) = refused x.refusal

@@ -1,49 +1,37 @@
-// Lines of text.
-ghost use Rattle.std.specs.Prelude.{◌≤◌};
-
-use crate::messages;
+// What stands in a line: a label, and words behind it.
 use crate::messages::Message;
-use std::io;
+use std::{fmt, str};
 
-fn put_words(line: &mut [u8], at: usize, words: [u32; 16], count: usize) -> usize
-    requires { count ≤ 16 }
-{
-    let mut place = at;
-    let mut i = 0;
-    while i < count {
-        let word = words[i];
-        place = text::put(line, place, b" ");
-        place = text::put_word(line, place, word);
-        i += 1;
+// The first `count` words, each as eight upper-case digits, which `text::put_word` spells: its digits are compared with the source's so.
+#[derive(Clone, Copy)]
+pub(crate) struct Words {
+    pub(crate) words: [u32; 16],
+    pub(crate) count: usize,
+}
+
+impl fmt::Display for Words {
+    fn fmt<W: fmt::Write>(&self, f: &mut fmt::Formatter<W>) -> fmt::Result {
+        for word in self.words.iter().take(self.count) {
+            let mut digits = [0u8; 8];
+            let size = text::put_word(&mut digits, 0, *word);
+            let spelled = str::from_utf8(text::first(&digits, size)).unwrap_or("");
+            write!(f, " {spelled}")?;
+        }
+        Ok(())
     }
-    place
 }
 
-// Puts the first `count` words behind a label, and prints the line.
-pub(crate) fn print_words(
-    rt: &impl Print,
-    line: &mut [u8],
-    at: usize,
-    words: [u32; 16],
-    count: usize,
-) -> io::Result<()>
-    requires { count ≤ 16 }
-{
-    let end = put_words(line, at, words, count);
-    let size = text::put(line, end, b"\n");
-    rt.write_all(text::first(line, size))
+// The label of a digest. That it is salted is a word of the label, no step to run.
+#[derive(Clone, Copy)]
+pub(crate) struct Label {
+    pub(crate) m: u16,
+    pub(crate) salted: bool,
+    pub(crate) message: Message,
 }
 
-fn put_salted(line: &mut [u8], at: usize, salted: bool) -> usize {
-    if salted {
-        return text::put(line, at, b" salted ");
+impl fmt::Display for Label {
+    fn fmt<W: fmt::Write>(&self, f: &mut fmt::Formatter<W>) -> fmt::Result {
+        let kind = if self.salted { "salted" } else { "unsalted" };
+        write!(f, "{} {kind} {}", self.m, self.message)
     }
-    text::put(line, at, b" unsalted ")
-}
-
-// The label of a digest.
-pub(crate) fn put_label(line: &mut [u8], m: u16, salted: bool, message: Message) -> usize {
-    let at = text::put_decimal(line, 0, m as u64);
-    let end = put_salted(line, at, salted);
-    messages::put_name(line, end, message)
 }

@@ -1,5 +1,6 @@
 // The appendix's four messages.
 use state::State;
+use std::fmt;
 
 #[derive(Clone, Copy)]
 pub enum Message {
@@ -9,29 +10,28 @@ pub enum Message {
     Million,
 }
 
-pub(crate) fn put_name(line: &mut [u8], at: usize, message: Message) -> usize {
-    match message {
-        Message::Empty => text::put(line, at, b"empty"),
-        Message::A => text::put(line, at, b"a"),
-        Message::Alphabet => text::put(line, at, b"alphabet"),
-        Message::Million => text::put(line, at, b"million-a"),
+impl fmt::Display for Message {
+    fn fmt<W: fmt::Write>(&self, f: &mut fmt::Formatter<W>) -> fmt::Result {
+        let name = match self {
+            Message::Empty => "empty",
+            Message::A => "a",
+            Message::Alphabet => "alphabet",
+            Message::Million => "million-a",
+        };
+        write!(f, "{name}")
     }
 }
 
 fn add(state: State, bytes: &[u8]) -> State {
-    let step = digest::add(form::TABLES, state, bytes);
-    step.state
+    digest::add(form::TABLES, state, bytes).state
 }
 
 // One million letters A, a thousand an add.
 fn add_million(state: State) -> State {
     let chunk = [b'A'; 1000];
     let mut reached = state;
-    let mut i: usize = 0;
-    while i < 1000 {
-        let next = add(reached, &chunk);
-        reached = next;
-        i += 1;
+    for _ in 0..1000 {
+        reached = add(reached, &chunk);
     }
     reached
 }

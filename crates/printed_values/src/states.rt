@@ -1,21 +1,14 @@
 // How a digest starts and ends: by the rule, and as the appendix was made.
-ghost use Rattle.std.specs.Prelude.{◌≤◌};
-
 use crate::messages::Message;
 use bits::LastBits;
 use counter::Counter;
-use family::{Family, LargeFamily, SmallFamily};
+use family::{Family, SmallFamily};
 use reports::Length;
 use state::State;
 
 // A digest's words: the lengths that the appendix has are whole words.
-pub(crate) fn word_count(m: u16) -> usize
-    ensures { result ≤ 16 }
-{
-    if m > LargeFamily::DIGEST_BITS {
-        return LargeFamily::CHAIN_WORDS;
-    }
-    (m / 32) as usize
+pub(crate) fn word_count(m: u16) -> usize {
+    usize::from(m / 32)
 }
 
 fn salt_byte(m: u16) -> u8 {
@@ -29,29 +22,23 @@ fn salt_byte(m: u16) -> u8 {
 
 // The appendix's salt for m bits, with zeros past the family's own size.
 fn salt_of(m: u16) -> [u8; 64] {
-    let b = salt_byte(m);
     let size = Family::of(m).salt_bytes();
     let mut salt = [0u8; 64];
-    let mut i = 0;
-    while i < size {
-        salt[i] = b;
-        i += 1;
+    for byte in salt.iter_mut().take(size) {
+        *byte = salt_byte(m);
     }
     salt
 }
 
-fn begun(m: u16, salt: &[u8]) -> State {
-    let step = digest::begin(form::TABLES, m, salt);
-    step.state
-}
-
+// The label's `salted`: whether the salt is the appendix's or none. It is taken by `text::first`, since `salt_bytes` says its number by the family's and not by a bound.
 pub(crate) fn started_by_rule(m: u16, salted: bool) -> State {
     let salt = salt_of(m);
-    if !salted {
-        return begun(m, text::first(&salt, 0));
-    }
-    let size = Family::of(m).salt_bytes();
-    begun(m, text::first(&salt, size))
+    let size = if salted {
+        Family::of(m).salt_bytes()
+    } else {
+        0
+    };
+    digest::begin(form::TABLES, m, text::first(&salt, size)).state
 }
 
 // The appendix's salted digests come out only where both start-up calls have the salt too; the rule has zeros there.
@@ -59,17 +46,16 @@ fn started_with_salt(m: u16) -> State {
     let family = Family::of(m);
     let salt = salt_of(m);
     let mut chain = [0u32; 16];
+    let mut block = [0u8; 128];
     chaining::block(
         form::TABLES,
         family,
         &mut chain,
-        &[0u8; 128],
+        &block,
         Counter::of(0),
         &salt,
     );
-    let mut block = [0u8; 128];
-    block[0] = (m % 256) as u8;
-    block[1] = (m / 256) as u8;
+    block[..2].copy_from_slice(&m.to_le_bytes());
     chaining::block(
         form::TABLES,
         family,
@@ -79,16 +65,17 @@ fn started_with_salt(m: u16) -> State {
         &salt,
     );
     State {
-        family: family,
-        m: m,
-        salt: salt,
-        chain: chain,
+        family,
+        m,
+        salt,
+        chain,
         covered: Length(0),
         compressed: 0,
         held: [0u8; 128],
     }
 }
 
+// The label's `salted`: a digest without a salt is printed as the rule has it.
 pub(crate) fn started_as_printed(m: u16, salted: bool) -> State {
     if salted {
         return started_with_salt(m);
@@ -100,16 +87,10 @@ pub(crate) fn started_as_printed(m: u16, salted: bool) -> State {
 pub(crate) fn ended_by_rule(state: State) -> [u32; 16] {
     let mut bytes = [0u8; 64];
     digest::finish(form::TABLES, state, LastBits::none(), &mut bytes);
-    words_of(bytes)
-}
-
-fn words_of(bytes: [u8; 64]) -> [u32; 16] {
     let mut words = [0u32; 16];
-    let mut i = 0;
-    while i < 16 {
-        let at = 4 * i;
-        words[i] = words::word(bytes[at], bytes[at + 1], bytes[at + 2], bytes[at + 3]);
-        i += 1;
+    let (fours, _) = bytes.as_chunks::<4>();
+    for (word, four) in words.iter_mut().zip(fours) {
+        *word = u32::from_le_bytes(*four);
     }
     words
 }
@@ -117,23 +98,18 @@ fn words_of(bytes: [u8; 64]) -> [u32; 16] {
 // A million is a whole number of small blocks, so the last block holds padding only. The appendix gave it the message length as counter,
 // where the rule has 0.
 fn ended_with_length(state: State) -> [u32; 16] {
-    let family = state.family;
-    let m = state.m;
-    let salt = state.salt;
-    let mut chain = state.chain;
     let bits: u64 = 8000000;
     let mut block = [0u8; 128];
     block[0] = 0x80;
     let at = SmallFamily::LENGTH_PLACE;
-    block[at] = (bits % 256) as u8;
-    block[at + 1] = (bits / 256 % 256) as u8;
-    block[at + 2] = (bits / 65536) as u8;
     let end = at + SmallFamily::LENGTH_BYTES;
-    block[end] = (m % 256) as u8;
-    block[end + 1] = (m / 256) as u8;
+    block[at..end].copy_from_slice(&bits.to_le_bytes());
+    block[end..end + 2].copy_from_slice(&state.m.to_le_bytes());
+    let mut chain = state.chain;
+    let salt = state.salt;
     chaining::block(
         form::TABLES,
-        family,
+        state.family,
         &mut chain,
         &block,
         Counter::of(bits),
@@ -142,16 +118,9 @@ fn ended_with_length(state: State) -> [u32; 16] {
     chain
 }
 
-fn ended_million(state: State) -> [u32; 16] {
-    if state.m <= SmallFamily::DIGEST_BITS {
-        return ended_with_length(state);
-    }
-    ended_by_rule(state)
-}
-
 pub(crate) fn ended_as_printed(state: State, message: Message) -> [u32; 16] {
     match message {
-        Message::Million => ended_million(state),
+        Message::Million if state.m <= SmallFamily::DIGEST_BITS => ended_with_length(state),
         _ => ended_by_rule(state),
     }
 }

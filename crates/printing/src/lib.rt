@@ -7,23 +7,12 @@ use std::io::Read;
 // One byte more than the longest log has: what is longer is refused by it.
 const MOST: usize = layout::LONGEST + 1;
 
-// Reads until the buffer is full, the file ends or a read fails, and answers how many bytes came.
-fn read_full(file: &mut impl Read, buffer: &mut [u8]) -> usize {
-    let mut done = 0;
-    while done < buffer.len() {
-        let n = file.read(&mut buffer[done..]).unwrap_or(0);
-        if n == 0 {
-            return done;
-        }
-        done += n;
-    }
-    done
-}
-
+// A read that fails ends the log as the file's end does: what came before it is checked. The text is taken by `text::first`: `print` says how long it is by its definition, and
+// that so much fits stands in no clause of it.
 pub fn print_check(rt: &impl Print, file: &mut impl Read) -> io::Result<()> {
     let mut log = [0u8; MOST];
-    let size = read_full(file, &mut log);
+    let (size, _) = command_line::read_full(file, &mut log);
     let mut lines = [0u8; printout::ROOM];
-    let printed = printout::print(text::first(&log, size), &mut lines);
-    rt.write_all(text::first(&lines, printed.length()))
+    let printed = printout::print(&log[..size], &mut lines);
+    rt.write_all(text::first(&lines, printed.unwrap_or(0)))
 }

@@ -1,31 +1,28 @@
 -- The numbers of a check's answer are small: R at most 24, N at most 1,024, the register that differs below R, a refusal's offset at most 38,440.
-use mathlib.Core.Path.{◌≡◌, refl, ap}
+use mathlib.Core.Path.{◌≡◌, refl}
 use mathlib.Core.Bool.{Bool, true, false, cond}
 use mathlib.Core.List.{List}
 use Prim.Native.Nat.{ℕ, zero, suc, ◌+◌, ◌*◌, ◌≤◌, ◌<◌}
 use native.Mathlib.Omega.{arith}
 use lib.Dec.{eqb}
 use lib.ListN.{length, replicate}
-use borrow.Author.Tests.{lt-ltb, le-ltb, lt-leb}
+use borrow.Author.Tests.{le-ltb}
+use Rattle.std.specs.Prelude.{Result, Ok, Err}
 use Rattle.log_answers.specs.declared.reading.Layout.{Layout}
-use Rattle.log_answers.specs.declared.reading.Reading.{Reading}
-use Rattle.log_answers.specs.declared.reading.Reading.TheVariants as reading
+use Rattle.log_answers.specs.declared.reading.Fault.{Fault}
 use Rattle.log_answers.specs.declared.checked.Verdict.TheVariants.{NoClaim, Differs}
-use Rattle.log_answers.specs.declared.checked.Checked.{Checked}
 use Rattle.layout.specs.Layout.{reading_of, claims_of}
 use Rattle.records.specs.Records.{register_at, extensions_at}
 use Rattle.fields.specs.Fields.{same}
 use Rattle.bootlog.specs.Check.{ends_of, compared, verdict_of, checked_at, check_of, check_buffer}
 use Rattle.log_answers.specs.Checked.{check_registers}
-use Rattle.answers.specs.declared.refusal.Refusal.TheVariants.{BufferShort}
-use Rattle.answers.specs.declared.written.Written.TheVariants.{Bytes, Refused}
-use Rattle.text.specs.Place.{placed}
 use Rattle.layout.proofs.Sizes.{counts}
 use Rattle.bad_logs.proofs.Far.{refused_place}
 use Rattle.bootlog.proofs.Logs.{log_blocks}
 use Rattle.bootlog.proofs.Recorded.{recorded_number, few_extensions}
 use Rattle.printout.specs.Printout.{text_of, printout_of, print_of}
-use Rattle.printout.specs.Wrote.{Room}
+use Rattle.printout.specs.Page.{kept}
+use Rattle.printout.proofs.Pages.{all_kept}
 use Rattle.printout.proofs.Lengths.{Register, Modest, text_length}
 
 compared_small : (ends claims : List ℕ) (r n : ℕ) → r + n ≤ 24 → Register (compared ends claims r n)
@@ -49,9 +46,9 @@ pub modest : (log : List ℕ) → Modest (check_of log 816)
 unfolding check_of checked_at
 modest log = by (reading_of log) refl
   where
-    by : (x : Reading) → reading_of log ≡ x → Modest (check_of log 816)
-    by (reading.Refused r o) e = rw (e, check_of) (omega (arith, refused_place log r o e))
-    by (reading.Whole at) e =
+    by : (x : Result Layout Fault) → reading_of log ≡ x → Modest (check_of log 816)
+    by (Err f) e = rw (e, check_of) (omega (arith, refused_place log f.refusal f.offset e))
+    by (Ok at) e =
         let c = counts log at e in
         rw (e, check_of, le-ltb 816 (34 * at.registers) (omega (arith, c.most)), log_blocks log at e)
         (c.most, c.events, omega (arith, c.events), verdict_small log at c.most)
@@ -61,9 +58,9 @@ few : (log : List ℕ) (r : ℕ) → r < check_registers (check_of log 816) → 
 unfolding check_of checked_at
 few log r = by (reading_of log) refl
   where
-    by : (x : Reading) → reading_of log ≡ x → r < check_registers (check_of log 816) → extensions_at (check_buffer log (replicate 816 0)) r < 10000
-    by (reading.Refused x o) e h = absurd (omega (arith, rw (e, check_of) at h))
-    by (reading.Whole at) e h =
+    by : (x : Result Layout Fault) → reading_of log ≡ x → r < check_registers (check_of log 816) → extensions_at (check_buffer log (replicate 816 0)) r < 10000
+    by (Err f) e h = absurd (omega (arith, rw (e, check_of) at h))
+    by (Ok at) e h =
         let room : 34 * at.registers ≤ 816 = omega (arith, (counts log at e).most) in
         let below : r < at.registers = rw (e, check_of, le-ltb 816 (34 * at.registers) room) at h in
         omega (arith, recorded_number log at e (replicate 816 0) room r below, few_extensions log at e r)
@@ -74,25 +71,11 @@ unfolding printout_of
 printout_length log = text_length (check_of log 816) (check_buffer log (replicate 816 0)) (modest log) (few log)
 
 -- so a buffer of so many is never too short for print
-pub print_fits : (log : List ℕ) (room : ℕ) → 2048 ≤ room → print_of log room ≡ Bytes (length (printout_of log))
+pub print_fits : (log : List ℕ) (room : ℕ) → 2048 ≤ room → print_of log room ≡ Ok (length (printout_of log))
 unfolding print_of
 print_fits log room h = rw (le-ltb room (length (printout_of log)) (omega (arith, printout_length log)))
 
--- what a check answered and left in the buffer, and so the room that its text needs
-module _ (log records : List ℕ) {c : Checked} (e : c ≡ check_of log 816) (b : records ≡ check_buffer log (replicate 816 0)) where
-  pub printed : text_of c records ≡ printout_of log
-  unfolding printout_of
-  printed = rw (e, b)
-
-  pub room : Room (replicate 2048 0) 0 (text_of c records)
-  room = record { fits = omega (arith, ap length printed, printout_length log) }
-
--- what print answers and leaves, for a text of n bytes
-module _ (log out : List ℕ) {n : ℕ} (e : n ≡ length (printout_of log)) where
-  pub print_short : length out < n → (Refused BufferShort ≡ print_of log (length out)) × (out ≡ placed out 0 (printout_of log))
-  unfolding print_of placed
-  print_short h = (rw (lt-ltb (length out) (length (printout_of log)) (omega arith)), rw (lt-leb (0 + length (printout_of log)) (length out) (omega arith)))
-
-  pub print_put : n ≤ length out → {b : List ℕ} → b ≡ placed out 0 (printout_of log) → (Bytes n ≡ print_of log (length out)) × (b ≡ placed out 0 (printout_of log))
-  unfolding print_of
-  print_put h f = (rw (le-ltb (length out) (length (printout_of log)) (omega arith), e), f)
+-- the text of a check fits a page
+pub printed : (log : List ℕ) → kept (text_of (check_of log 816) (check_buffer log (replicate 816 0))) ≡ printout_of log
+unfolding printout_of
+printed log = all_kept (printout_of log) (printout_length log)

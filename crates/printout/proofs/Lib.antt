@@ -1,4 +1,4 @@
-pub mod Writing
+pub mod Pages
 pub mod Lengths
 pub mod Bounds
 pub mod Refusals

@@ -1,16 +1,13 @@
 -- The text of one check (document 01, "Cases at the edges", and document 02, Four and Six), in ASCII. Numbers are decimal.
-use Rattle.std.specs.Prelude.{cond, List, [], ◌∷◌, ◌++◌, ℕ, ltb, length, replicate}
+use Rattle.std.specs.Prelude.{cond, List, [], ◌∷◌, ◌++◌, ℕ, ltb, length, replicate, Option, Some, None, Result, Ok, Err}
 use Rattle.answers.specs.declared.refusal.Refusal.{Refusal}
 use Rattle.answers.specs.declared.refusal.Refusal.TheVariants.{BufferShort}
-use Rattle.answers.specs.declared.written.Written.{Written}
-use Rattle.answers.specs.declared.written.Written.TheVariants as written
+use Rattle.answers.specs.Written.{Written}
 use Rattle.answers.specs.Refusal.{refusal_number}
-use Rattle.log_answers.specs.declared.place.Place.{Place}
-use Rattle.log_answers.specs.declared.place.Place.TheVariants.{At, Nowhere}
 use Rattle.log_answers.specs.declared.checked.Verdict.{Verdict}
 use Rattle.log_answers.specs.declared.checked.Verdict.TheVariants.{NoClaim, Agrees, Differs}
-use Rattle.log_answers.specs.declared.checked.Checked.{Checked}
-use Rattle.log_answers.specs.declared.checked.Checked.TheVariants.{Accepted, Refused}
+use Rattle.log_answers.specs.declared.checked.Findings.{Findings}
+use Rattle.log_answers.specs.declared.checked.Refused.{Refused}
 use Rattle.records.specs.Records.{joined, value_at, extensions_at}
 use Rattle.bootlog.specs.Check.{check_of, check_buffer}
 use Rattle.text.specs.Digits.{decimal_of, hex_of}
@@ -60,18 +57,19 @@ abbrev pub register_lines : List ℕ → ℕ → List ℕ
 register_lines records n = joined (register_line records) n
 
 -- The end of a refusal's line: its place, " at 40"; nothing where it has no place in the log.
-unfoldable pub place_text : Place → List ℕ
-place_text (At i) = at_word ++ (decimal_of i ++ feed)
-place_text Nowhere = feed
+unfoldable pub place_text : Option ℕ → List ℕ
+place_text (Some i) = at_word ++ (decimal_of i ++ feed)
+place_text None = feed
 
 -- A refusal is the single line "refused 6 at 40" with its number and place; one that has no place in the log is printed with its number alone, "refused 5".
-unfoldable pub refusal_line : Refusal → Place → List ℕ
+unfoldable pub refusal_line : Refusal → Option ℕ → List ℕ
 refusal_line x p = refused_word ++ (decimal_of (refusal_number x) ++ place_text p)
 
 -- Line 1: the word accepted, R, N, blocks compressed, verdict; then the registers.
-unfoldable pub text_of : Checked → List ℕ → List ℕ
-text_of (Accepted r n b v) records = accepted_word ++ (spaced r ++ (spaced n ++ (spaced b ++ (verdict_text v ++ (feed ++ register_lines records r)))))
-text_of (Refused x p) records = refusal_line x p
+unfoldable pub text_of : Result Findings Refused → List ℕ → List ℕ
+text_of (Ok f) records =
+    accepted_word ++ (spaced f.registers ++ (spaced f.events ++ (spaced f.blocks ++ (verdict_text f.verdict ++ (feed ++ register_lines records f.registers)))))
+text_of (Err x) records = refusal_line x.refusal x.place
 
 -- the text of a log's check; its buffer has room for 24 records, the most that a log has
 unfoldable pub printout_of : List ℕ → List ℕ
@@ -79,4 +77,4 @@ printout_of log = text_of (check_of log 816) (check_buffer log (replicate 816 0)
 
 -- The answer of print into a buffer of so many bytes: the text's length, or 5 where there is less room.
 unfoldable pub print_of : List ℕ → ℕ → Written
-print_of log room = cond (ltb room (length (printout_of log))) (written.Refused BufferShort) (written.Bytes (length (printout_of log)))
+print_of log room = cond (ltb room (length (printout_of log))) (Err BufferShort) (Ok (length (printout_of log)))

@@ -1,139 +1,151 @@
 // The text of one check: what the programs print.
-#![tactic(auto)]
+#![tactic(auto, using(crate::proofs::Pages::kept_more, std::proofs::Common::append_assoc), unfolding(crate::specs::Printout::spaced, crate::specs::Printout::verdict_text, crate::specs::Printout::register_line, crate::specs::Printout::place_text, crate::specs::Printout::refusal_line, crate::specs::Printout::text_of))]
 
-ghost use Rattle.std.specs.Prelude.{◌≡◌, length};
+ghost use Rattle.std.specs.Prelude.{◌≡◌, ◌++◌, length, Ok};
 ghost use Rattle.text.specs.Digits.{decimal_of, hex_of};
 ghost use Rattle.text.specs.Place.{placed};
-ghost use Rattle.printout.specs.Printout.{verdict_text, register_line, register_lines, spaced, place_text, refusal_line, text_of, printout_of, print_of};
-ghost use Rattle.printout.specs.Wrote.{Room, Wrote};
+ghost use Rattle.records.specs.Records.{value_at};
+ghost use Rattle.printout.specs.Page.{kept};
+ghost use Rattle.printout.specs.Printout.{verdict_text, register_line, spaced, place_text, refusal_line, text_of, printout_of, print_of};
 
-use answers::{Refusal, Written};
-use log_answers::{Checked, Place, Verdict};
+use answers::Refusal;
+use arrayvec::ArrayVec;
+use log_answers::{Findings, Refused, Verdict};
 
 // A buffer of so many bytes is never too short for a check's text.
 pub const ROOM: usize = 2048;
 
-// The calls of text, where there is room.
-fn word(out: &mut [u8], at: usize, bytes: &[u8]) -> usize
-    requires { Room out.old at bytes.now }
-    ensures { Wrote out.old at bytes.now out.new result }
+// A check's text so far.
+type Page = ArrayVec<u8, ROOM>;
+
+// Puts as many of the bytes as there is room for, so that no caller has to show that there is any.
+#[tactic(auto, using(crate::proofs::Pages::fits, crate::proofs::Pages::fitted))]
+fn put(page: &mut Page, bytes: &[u8])
+    ensures { page.new.items ≡ kept (page.old.items ++ bytes.now) }
 {
-    text::put(out, at, bytes)
+    let fitting = text::first(bytes, page.remaining_capacity());
+    let _ = page.try_extend_from_slice(fitting);
 }
 
-fn number(out: &mut [u8], at: usize, n: usize) -> usize
-    requires { Room out.old at (decimal_of n) }
-    ensures { Wrote out.old at (decimal_of n) out.new result }
+// The digits stand in a buffer of their own, since `text` puts them into a lent one. One function for this and `value` would take a size and a closure, and be no plainer.
+#[tactic(auto, using(crate::proofs::Lengths::decimal_short, crate::proofs::Pages::digits_there))]
+fn number(page: &mut Page, n: usize)
+    ensures { page.new.items ≡ kept (page.old.items ++ decimal_of n) }
 {
-    text::put_decimal(out, at, n as u64)
+    let mut digits = [0u8; 20];
+    let count = text::put_decimal(&mut digits, 0, n as u64);
+    put(page, text::first(&digits, count));
 }
 
-fn hex(out: &mut [u8], at: usize, bytes: &[u8]) -> usize
-    requires { Room out.old at (hex_of bytes.now) }
-    ensures { Wrote out.old at (hex_of bytes.now) out.new result }
+fn spaced_number(page: &mut Page, n: usize)
+    ensures { page.new.items ≡ kept (page.old.items ++ spaced n) }
 {
-    text::put_hex(out, at, bytes)
+    number(page, n);
+    put(page, b" ");
 }
 
-fn spaced_number(out: &mut [u8], at: usize, n: usize) -> usize
-    requires { Room out.old at (spaced n) }
-    ensures { Wrote out.old at (spaced n) out.new result }
-{
-    let behind = number(out, at, n);
-    word(out, behind, b" ")
-}
-
-fn verdict(out: &mut [u8], at: usize, found: Verdict) -> usize
-    requires { Room out.old at (verdict_text found) }
-    ensures { Wrote out.old at (verdict_text found) out.new result }
+// By hand: `Display` promises nothing where a write fails, and `print` promises its answer on every input.
+fn verdict(page: &mut Page, found: Verdict)
+    ensures { page.new.items ≡ kept (page.old.items ++ verdict_text found) }
 {
     match found {
-        Verdict::NoClaim => word(out, at, b"noclaim"),
-        Verdict::Agrees => word(out, at, b"agrees"),
+        Verdict::NoClaim => put(page, b"noclaim"),
+        Verdict::Agrees => put(page, b"agrees"),
         Verdict::Differs(register) => {
-            let behind = word(out, at, b"differs ");
-            number(out, behind, register)
+            put(page, b"differs ");
+            number(page, register);
         }
     }
 }
 
-fn line(out: &mut [u8], at: usize, records: &[u8], register: usize) -> usize
-    requires { Room out.old at (register_line records.now register) }
-    ensures { Wrote out.old at (register_line records.now register) out.new result }
+// The value of a register, two digits a byte.
+#[tactic(auto, using(crate::proofs::Lengths::value_short, crate::proofs::Pages::digits_there))]
+fn value(page: &mut Page, records: &[u8], register: usize)
+    ensures { page.new.items ≡ kept (page.old.items ++ hex_of (value_at records.now register)) }
 {
-    let a = spaced_number(out, at, register);
-    let b = spaced_number(out, a, records::extensions_at(records, register));
-    let c = hex(out, b, records::value_at(records, register));
-    word(out, c, b"\n")
+    let mut digits = [0u8; 64];
+    let count = text::put_hex(&mut digits, 0, records::value_at(records, register));
+    put(page, text::first(&digits, count));
 }
 
-fn lines(out: &mut [u8], at: usize, records: &[u8], count: usize) -> usize
-    requires { Room out.old at (register_lines records.now count) }
-    ensures { Wrote out.old at (register_lines records.now count) out.new result }
+fn line(page: &mut Page, records: &[u8], register: usize)
+    ensures { page.new.items ≡ kept (page.old.items ++ register_line records.now register) }
 {
-    let mut behind = at;
-    let mut register = 0;
-    while register < count {
-        behind = line(out, behind, records, register);
-        register += 1;
-    }
-    behind
+    spaced_number(page, register);
+    spaced_number(page, records::extensions_at(records, register));
+    value(page, records, register);
+    put(page, b"\n");
 }
 
 // The end of a refusal's line: its place, where it has one.
-fn place_end(out: &mut [u8], at: usize, place: Place) -> usize
-    requires { Room out.old at (place_text place) }
-    ensures { Wrote out.old at (place_text place) out.new result }
+fn place_end(page: &mut Page, place: Option<usize>)
+    ensures { page.new.items ≡ kept (page.old.items ++ place_text place) }
 {
     match place {
-        Place::At(offset) => {
-            let a = word(out, at, b" at ");
-            let b = number(out, a, offset);
-            word(out, b, b"\n")
+        Some(offset) => {
+            put(page, b" at ");
+            number(page, offset);
+            put(page, b"\n");
         }
-        Place::Nowhere => word(out, at, b"\n"),
+        None => put(page, b"\n"),
     }
 }
 
-fn refusal_line(out: &mut [u8], refusal: Refusal, place: Place) -> usize
-    requires { Room out.old 0 (refusal_line refusal place) }
-    ensures { Wrote out.old 0 (refusal_line refusal place) out.new result }
+fn refusal_line(page: &mut Page, refused: Refused)
+    ensures { page.new.items ≡ kept (page.old.items ++ refusal_line refused.refusal refused.place) }
 {
-    let a = word(out, 0, b"refused ");
-    let b = number(out, a, refusal.number() as usize);
-    place_end(out, b, place)
+    put(page, b"refused ");
+    number(page, usize::from(refused.refusal.number()));
+    place_end(page, refused.place);
 }
 
-fn compose(out: &mut [u8], records: &[u8], checked: Checked) -> usize
-    requires { Room out.old 0 (text_of checked records.now) }
-    ensures { Wrote out.old 0 (text_of checked records.now) out.new result }
+// Line 1, and a line for each register.
+#[tactic(auto, using(crate::proofs::Pages::kept_more, crate::proofs::Pages::no_lines, crate::proofs::Pages::lines_more, std::proofs::Common::append_assoc))]
+fn accepted(page: &mut Page, records: &[u8], found: Findings)
+    ensures { page.new.items ≡ kept (page.old.items ++ text_of (Ok found) records.now) }
 {
+    put(page, b"accepted ");
+    spaced_number(page, found.registers);
+    spaced_number(page, found.events);
+    spaced_number(page, found.blocks);
+    verdict(page, found.verdict);
+    put(page, b"\n");
+    for register in 0..found.registers {
+        line(page, records, register);
+    }
+}
+
+fn compose(records: &[u8], checked: Result<Findings, Refused>) -> Page
+    ensures { result.items ≡ kept (text_of checked records.now) }
+{
+    let mut page = Page::new();
     match checked {
-        Checked::Accepted(registers, events, blocks, found) => {
-            let a = word(out, 0, b"accepted ");
-            let b = spaced_number(out, a, registers);
-            let c = spaced_number(out, b, events);
-            let d = spaced_number(out, c, blocks);
-            let e = verdict(out, d, found);
-            let f = word(out, e, b"\n");
-            lines(out, f, records, registers)
-        }
-        Checked::Refused(refusal, place) => refusal_line(out, refusal, place),
+        Ok(found) => accepted(&mut page, records, found),
+        Err(refused) => refusal_line(&mut page, refused),
     }
+    page
 }
 
-// Checks a log and puts the check's text at the buffer's front: all of it, or nothing where it does not fit.
-pub fn print(log: &[u8], out: &mut [u8]) -> Written
-    ensures result { result ≡ print_of log.now (length out.old) }
-    ensures buffer { out.new ≡ placed out.old 0 (printout_of log.now) }
+#[tactic(auto, using(crate::proofs::Bounds::printed))]
+fn checked_page(log: &[u8]) -> Page
+    ensures { result.items ≡ printout_of log.now }
 {
     let mut records = [0u8; bootlog::ROOM];
     let checked = bootlog::check(log, &mut records);
-    let mut whole = [0u8; ROOM];
-    let n = compose(&mut whole, &records, checked);
-    if out.len() < n {
-        return Written::Refused(Refusal::BufferShort);
+    compose(&records, checked)
+}
+
+// Checks a log and puts the check's text at the buffer's front: all of it, or nothing where it does not fit.
+#[tactic(auto, unfolding(crate::specs::Printout::print_of, text::specs::Place::placed))]
+pub fn print(log: &[u8], out: &mut [u8]) -> Result<usize, Refusal>
+    ensures result { result ≡ print_of log.now (length out.old) }
+    ensures buffer { out.new ≡ placed out.old 0 (printout_of log.now) }
+{
+    let page = checked_page(log);
+    let whole = page.as_slice();
+    if out.len() < whole.len() {
+        return Err(Refusal::BufferShort);
     }
-    text::put(out, 0, &whole[..n]);
-    Written::Bytes(n)
+    text::put(out, 0, whole);
+    Ok(whole.len())
 }

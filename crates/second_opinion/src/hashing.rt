@@ -1,21 +1,10 @@
 // The calls of the digest.
-use crate::calls::Said;
-use crate::parse::{Bits, Bytes, Last};
-use crate::{calls, line_words, parse, show};
-use bits::LastBits;
+use crate::calls::Room;
+use crate::line_words::Line;
+use crate::show::{Bytes, Shown};
 use state::State;
-
-// The answer's number, and the state handed back.
-pub(crate) fn stepped(out: &mut [u8], name: &[u8], step: digest::Step) -> Said {
-    let answer = step.answer;
-    let state = step.state;
-    let a = text::put(out, 0, name);
-    let b = show::number(out, a, answer.number() as u64);
-    Said {
-        size: show::state(out, b, state),
-        state: state,
-    }
-}
+use std::{fmt, io};
+use streaming::Running;
 
 // The form of the round that a call goes by, so that both are compared, and one digest goes through both: by the tables where a number is
 // even (m for begin, the bytes added, the room for finish, the size of a tag that is checked), else byte by byte. One-shot has the tables.
@@ -27,122 +16,55 @@ pub(crate) fn form_for(n: usize) -> bool {
     }
 }
 
-pub(crate) fn begin(line: &[u8], state: State, salt: &mut [u8], out: &mut [u8]) -> Said {
-    let Bits::Are(m) = parse::read_bits(line_words::word(line, 1)) else {
-        return calls::unreadable(state, out);
-    };
-    let Bytes::Are(n) = parse::read_bytes(line_words::word(line, 2), salt) else {
-        return calls::unreadable(state, out);
-    };
-    stepped(
-        out,
-        b"begin",
-        digest::begin(form_for(m as usize), m, text::first(salt, n)),
-    )
+pub(crate) fn begin(
+    rt: &impl Print,
+    line: Line<'_>,
+    state: &mut State,
+    room: &mut Room,
+) -> Option<io::Result<()>> {
+    let m = line.digest_bits(1)?;
+    let salt = line.bytes(2, &mut room.salt)?;
+    let begun = digest::begin(form_for(usize::from(m)), m, salt);
+    *state = begun.state;
+    Some(println!(rt; "begin {}", Shown(begun)))
 }
 
-pub(crate) fn add(line: &[u8], state: State, data: &mut [u8], out: &mut [u8]) -> Said {
-    let Bytes::Are(n) = parse::read_bytes(line_words::word(line, 1), data) else {
-        return calls::unreadable(state, out);
-    };
-    stepped(
-        out,
-        b"add",
-        digest::add(form_for(n), state, text::first(data, n)),
-    )
+// To the digest's state or the keyed one.
+pub(crate) fn add<S: Running>(
+    rt: &impl Print,
+    name: &str,
+    line: Line<'_>,
+    state: &mut S,
+    room: &mut Room,
+) -> Option<io::Result<()>>
+where
+    Shown<S>: fmt::Display,
+{
+    let bytes = line.bytes(1, &mut room.data)?;
+    let added = state.add(form_for(bytes.len()), bytes);
+    *state = added.state;
+    Some(println!(rt; "{name} {}", Shown(added)))
 }
 
-// How a digest ends: the last bits of its message, and how many bytes the lent buffer has.
-#[derive(Clone, Copy)]
-enum Ending {
-    Is(LastBits, usize),
-    Unreadable,
+// The current state stays as it is, and what is handed back is shown.
+pub(crate) fn finish(
+    rt: &impl Print,
+    line: Line<'_>,
+    state: State,
+    room: &mut Room,
+) -> Option<io::Result<()>> {
+    let last = line.last_bits(1, 2)?;
+    let lent = line.bytes(3, &mut room.lent)?;
+    let finished = digest::finish(form_for(lent.len()), state, last, lent);
+    Some(println!(rt; "finish {} {}", Shown(finished), Bytes(lent)))
 }
 
-fn read_ending(byte: &[u8], count: &[u8], buffer: &[u8], lent: &mut [u8]) -> Ending {
-    let Last::Are(last) = parse::read_last(byte, count) else {
-        return Ending::Unreadable;
-    };
-    let Bytes::Are(n) = parse::read_bytes(buffer, lent) else {
-        return Ending::Unreadable;
-    };
-    Ending::Is(last, n)
-}
-
-// What finish reports, and the state handed back.
-fn reported(out: &mut [u8], finished: digest::Finished) -> usize {
-    let report = finished.report;
-    let state = finished.state;
-    let a = text::put(out, 0, b"finish");
-    let b = show::report(out, a, report);
-    show::state(out, b, state)
-}
-
-pub(crate) fn finish(line: &[u8], state: State, lent: &mut [u8], out: &mut [u8]) -> usize {
-    let Ending::Is(last, n) = read_ending(
-        line_words::word(line, 1),
-        line_words::word(line, 2),
-        line_words::word(line, 3),
-        lent,
-    ) else {
-        return show::unreadable(out);
-    };
-    if n > lent.len() {
-        return show::unreadable(out);
-    }
-    let finished = digest::finish(form_for(n), state, last, &mut lent[0..n]);
-    let at = reported(out, finished);
-    show::bytes(out, at, &lent[0..n])
-}
-
-// One-shot on a salt and bytes that are read, with the last bits and the buffer that the line holds.
-fn into_buffer(
-    line: &[u8],
-    m: u16,
-    salt: &[u8],
-    data: &[u8],
-    lent: &mut [u8],
-    out: &mut [u8],
-) -> usize {
-    let Ending::Is(last, n) = read_ending(
-        line_words::word(line, 4),
-        line_words::word(line, 5),
-        line_words::word(line, 6),
-        lent,
-    ) else {
-        return show::unreadable(out);
-    };
-    if n > lent.len() {
-        return show::unreadable(out);
-    }
-    let report = digest::one_shot(m, salt, data, last, &mut lent[0..n]);
-    let a = text::put(out, 0, b"oneshot");
-    let b = show::report(out, a, report);
-    show::bytes(out, b, &lent[0..n])
-}
-
-pub(crate) fn one_shot(
-    line: &[u8],
-    salt: &mut [u8],
-    data: &mut [u8],
-    lent: &mut [u8],
-    out: &mut [u8],
-) -> usize {
-    let Bits::Are(m) = parse::read_bits(line_words::word(line, 1)) else {
-        return show::unreadable(out);
-    };
-    let Bytes::Are(s) = parse::read_bytes(line_words::word(line, 2), salt) else {
-        return show::unreadable(out);
-    };
-    let Bytes::Are(d) = parse::read_bytes(line_words::word(line, 3), data) else {
-        return show::unreadable(out);
-    };
-    into_buffer(
-        line,
-        m,
-        text::first(salt, s),
-        text::first(data, d),
-        lent,
-        out,
-    )
+pub(crate) fn one_shot(rt: &impl Print, line: Line<'_>, room: &mut Room) -> Option<io::Result<()>> {
+    let m = line.digest_bits(1)?;
+    let salt = line.bytes(2, &mut room.salt)?;
+    let bytes = line.bytes(3, &mut room.data)?;
+    let last = line.last_bits(4, 5)?;
+    let lent = line.bytes(6, &mut room.lent)?;
+    let report = digest::one_shot(m, salt, bytes, last, lent);
+    Some(println!(rt; "oneshot {} {}", Shown(report), Bytes(lent)))
 }

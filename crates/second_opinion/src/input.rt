@@ -1,152 +1,79 @@
 // Standard input, a chunk at a time, and the lines in it.
-use crate::calls::Current;
-use crate::{calls, line_words};
+use crate::calls;
+use crate::calls::{Current, Room};
+use crate::line_words::Line;
+use arrayvec::ArrayVec;
 use std::io;
 use std::io::Read;
 
-// How much of a line is kept so far, and the current states.
-#[derive(Clone, Copy)]
-struct Kept {
-    size: usize,
+// One byte more than the longest line, so that a line that is too long shows.
+const ROOM: usize = calls::LONGEST + 1;
+
+// What goes on from chunk to chunk: the front of a line that the chunks so far have brought, the current states, and room for the byte strings of a line.
+#[derive(Drop)]
+struct Session {
+    line: ArrayVec<u8, ROOM>,
     current: Current,
+    room: Room,
 }
 
-fn at_start() -> Kept {
-    Kept {
-        size: 0,
-        current: calls::at_start(),
+impl Session {
+    // Puts more behind the line's front, as far as there is room.
+    fn keep(&mut self, more: &[u8]) {
+        let count = more.len().min(self.line.remaining_capacity());
+        let _ = self.line.try_extend_from_slice(&more[..count]);
     }
-}
 
-// Puts more of a line behind the first `size` bytes, as far as there is room.
-fn keep(line: &mut [u8], size: usize, more: &[u8]) -> usize {
-    let mut to = size;
-    let mut i = 0;
-    while i < more.len() {
-        if to >= line.len() {
-            return to;
+    // Writes what a whole line gives, and begins the next.
+    fn reply(&mut self, rt: &impl Print) -> io::Result<()> {
+        let line = self.line.as_slice();
+        let written = if line.starts_with(b"#") {
+            Ok(())
+        } else {
+            match calls::answer(rt, Line(line), &mut self.current, &mut self.room) {
+                Some(written) => written,
+                None => println!(rt; "unreadable"),
+            }
+        };
+        self.line.clear();
+        written
+    }
+
+    // Answers each line that ends in the chunk.
+    fn feed(&mut self, rt: &impl Print, chunk: &[u8]) -> io::Result<()> {
+        for part in chunk.split_inclusive(|b| *b == b'\n') {
+            match part.split_last() {
+                Some((b'\n', front)) => {
+                    self.keep(front);
+                    self.reply(rt)?;
+                }
+                _ => self.keep(part),
+            }
         }
-        line[to] = more[i];
-        to += 1;
-        i += 1;
+        Ok(())
     }
-    to
-}
-
-fn is_comment(line: &[u8]) -> bool {
-    if line.len() == 0 {
-        return false;
-    }
-    line[0] == b'#'
-}
-
-// Writes what a whole line gives, and hands back the states after it.
-fn reply(
-    rt: &impl Print,
-    line: &[u8],
-    current: Current,
-    salt: &mut [u8],
-    bank: &mut [u8],
-    data: &mut [u8],
-    lent: &mut [u8],
-    out: &mut [u8],
-) -> io::Result<Current> {
-    if is_comment(line) {
-        return Ok(current);
-    }
-    let answered = calls::answer(line, current, salt, bank, data, lent, out);
-    let end = text::put(out, answered.size, b"\n");
-    rt.write_all(text::first(out, end))?;
-    Ok(answered.current)
-}
-
-// Answers each line that ends in the chunk.
-fn feed(
-    rt: &impl Print,
-    chunk: &[u8],
-    kept: Kept,
-    line: &mut [u8],
-    salt: &mut [u8],
-    bank: &mut [u8],
-    data: &mut [u8],
-    lent: &mut [u8],
-    out: &mut [u8],
-) -> io::Result<Kept> {
-    let mut size = kept.size;
-    let mut current = kept.current;
-    let mut at = 0;
-    while at < chunk.len() {
-        let stop = line_words::until(chunk, at, b'\n');
-        size = keep(line, size, &chunk[at..stop]);
-        if stop == chunk.len() {
-            return Ok(Kept {
-                size: size,
-                current: current,
-            });
-        }
-        at = stop + 1;
-        let whole = text::first(line, size);
-        let next = reply(rt, whole, current, salt, bank, data, lent, out)?;
-        current = next;
-        size = 0;
-    }
-    Ok(Kept {
-        size: size,
-        current: current,
-    })
-}
-
-// Answers a last line that no line feed ends.
-fn end(
-    rt: &impl Print,
-    kept: Kept,
-    line: &[u8],
-    salt: &mut [u8],
-    bank: &mut [u8],
-    data: &mut [u8],
-    lent: &mut [u8],
-    out: &mut [u8],
-) -> io::Result<()> {
-    let size = kept.size;
-    let current = kept.current;
-    if size > 0 {
-        let whole = text::first(line, size);
-        reply(rt, whole, current, salt, bank, data, lent, out)?;
-    }
-    Ok(())
 }
 
 // Answers every line of standard input, which ends where a read fails too. A proved loop has to end, and nothing says that the input does: so the
-// loop has as many turns as no run uses up.
-pub(crate) fn run(
-    rt: &HostRuntime,
-    chunk: &mut [u8],
-    line: &mut [u8],
-    salt: &mut [u8],
-    bank: &mut [u8],
-    data: &mut [u8],
-    lent: &mut [u8],
-    out: &mut [u8],
-) -> io::Result<()> {
+// loop has as many turns as no run uses up. It stands beside `streaming::add_all`, which adds each read to a state and takes a failed read for an error: one loop for
+// both would take closures for a read, a failure and the end, and be no plainer.
+pub(crate) fn run(rt: &HostRuntime) -> io::Result<()> {
+    let mut chunk = [0u8; 65536];
+    let mut session = Session {
+        line: ArrayVec::new(),
+        current: Current::new(),
+        room: Room::new(),
+    };
     let mut input = rt.stdin();
-    let mut kept = at_start();
     for _ in 0..u64::MAX {
-        let n = input.read(chunk).unwrap_or(0);
-        if n == 0 {
-            return end(rt, kept, line, salt, bank, data, lent, out);
+        match input.read(&mut chunk) {
+            Ok(n) if n > 0 => session.feed(rt, &chunk[..n])?,
+            _ => break,
         }
-        let next = feed(
-            rt,
-            text::first(chunk, n),
-            kept,
-            line,
-            salt,
-            bank,
-            data,
-            lent,
-            out,
-        )?;
-        kept = next;
+    }
+    // A last line that no line feed ends.
+    if !session.line.is_empty() {
+        session.reply(rt)?;
     }
     Ok(())
 }

@@ -1,55 +1,70 @@
-// The words of a line, which single spaces separate. Two spaces together make an empty word, which nothing can read.
-ghost use Rattle.std.specs.Prelude.{◌≤◌, length};
+// A line and its words, which single spaces separate. Two spaces together make an empty word, which nothing can read.
+use crate::parse;
+use bits::LastBits;
+use family::Family;
 
-// The first place from `from` on that holds the byte, or the end.
-pub(crate) fn until(bytes: &[u8], from: usize, byte: u8) -> usize
-    requires { from ≤ length bytes.now }
-    ensures { (from ≤ result) × (result ≤ length bytes.now) }
-{
-    let mut i = from;
-    while i < bytes.len() {
-        if bytes[i] == byte {
-            return i;
-        }
-        i += 1;
+// What a word spells is none where it is not as the format has it. Words are counted from 0.
+#[derive(Clone, Copy)]
+pub(crate) struct Line<'a>(pub(crate) &'a [u8]);
+
+impl<'a> Line<'a> {
+    // Empty where there are fewer words.
+    pub(crate) fn word(self, k: usize) -> &'a [u8] {
+        self.0.split(|b| *b == b' ').nth(k).unwrap_or(b"")
     }
-    i
-}
 
-// Where word k begins, counted from 0; the end where there are fewer.
-fn start(line: &[u8], k: usize) -> usize
-    ensures { result ≤ length line.now }
-{
-    let mut left = k;
-    let mut at = 0;
-    while at < line.len() {
-        if left == 0 {
-            return at;
-        }
-        if line[at] == b' ' {
-            left -= 1;
-        }
-        at += 1;
+    // How many words follow the first.
+    pub(crate) fn arguments(self) -> usize {
+        self.0.iter().filter(|b| **b == b' ').count()
     }
-    at
-}
 
-// Word k, counted from 0: empty where there are fewer.
-pub(crate) fn word(line: &[u8], k: usize) -> &[u8] {
-    let from = start(line, k);
-    let to = until(line, from, b' ');
-    &line[from..to]
-}
-
-// How many words follow the first.
-pub(crate) fn arguments(line: &[u8]) -> usize {
-    let mut n = 0;
-    let mut i = 0;
-    while i < line.len() {
-        if line[i] == b' ' {
-            n += 1;
-        }
-        i += 1;
+    // A byte string, put at the start of `out`.
+    pub(crate) fn bytes<'b>(self, k: usize, out: &'b mut [u8]) -> Option<&'b mut [u8]> {
+        parse::bytes(self.word(k), out)
     }
-    n
+
+    // A byte string of N bytes.
+    pub(crate) fn array<const N: usize>(self, k: usize) -> Option<[u8; N]> {
+        let mut out = [0u8; N];
+        if self.bytes(k, &mut out)?.len() != N {
+            return None;
+        }
+        Some(out)
+    }
+
+    // A byte string of N times four bytes.
+    pub(crate) fn fours<const N: usize>(self, k: usize) -> Option<[[u8; 4]; N]> {
+        let mut out = [[0u8; 4]; N];
+        let flat = out.as_flattened_mut();
+        let size = flat.len();
+        if self.bytes(k, flat)?.len() != size {
+            return None;
+        }
+        Some(out)
+    }
+
+    pub(crate) fn number(self, k: usize) -> Option<u64> {
+        parse::number(self.word(k))
+    }
+
+    // A digest length in bits, allowed or not.
+    pub(crate) fn digest_bits(self, k: usize) -> Option<u16> {
+        u16::try_from(self.number(k)?).ok()
+    }
+
+    // The last bits of a message: one byte, and a number up to 255 in the word behind it.
+    pub(crate) fn last_bits(self, byte: usize, count: usize) -> Option<LastBits> {
+        let [byte] = self.array::<1>(byte)?;
+        let count = u8::try_from(self.number(count)?).ok()?;
+        Some(LastBits { byte, count })
+    }
+
+    // By a match, as the format has it: 0 and 1 are the families' numbers, and any other number is none.
+    pub(crate) fn family(self, k: usize) -> Option<Family> {
+        match self.number(k)? {
+            0 => Some(Family::Small),
+            1 => Some(Family::Large),
+            _ => None,
+        }
+    }
 }

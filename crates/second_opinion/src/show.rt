@@ -1,129 +1,141 @@
-// Writing words to a line: each is put behind a space, and the answer is the place behind it.
-use answers::Written;
+// Values as words of a line.
+use answers::{Handed, Refusal};
 use keyed_state::Keyed;
-use log_answers::{Checked, Verdict};
-use reports::Report;
+use log_answers::{CheckAnswer, Findings, LogAnswer, Refused, Verdict};
+use reports::{Coverage, Length};
 use state::State;
-use tag_answers::{TagCheck, Tagged};
+use std::fmt;
+use streaming::Hex;
 
-// The whole line, where the one read is not as the format has it.
-pub(crate) fn unreadable(out: &mut [u8]) -> usize {
-    text::put(out, 0, b"unreadable")
-}
+// A byte string.
+#[derive(Clone, Copy)]
+pub(crate) struct Bytes<'a>(pub(crate) &'a [u8]);
 
-pub(crate) fn number(out: &mut [u8], at: usize, n: u64) -> usize {
-    let from = text::put(out, at, b" ");
-    text::put_decimal(out, from, n)
-}
-
-pub(crate) fn bytes(out: &mut [u8], at: usize, bytes: &[u8]) -> usize {
-    if bytes.len() == 0 {
-        return text::put(out, at, b" -");
+impl fmt::Display for Bytes<'_> {
+    fn fmt<W: fmt::Write>(&self, f: &mut fmt::Formatter<W>) -> fmt::Result {
+        if self.0.is_empty() {
+            return write!(f, "-");
+        }
+        let spelled = Hex(self.0);
+        write!(f, "{spelled}")
     }
-    let from = text::put(out, at, b" ");
-    text::put_hex(out, from, bytes)
 }
 
-// The four bytes of a word, most significant first.
-pub(crate) fn spell(w: u32) -> [u8; 4] {
-    [
-        (w / 16777216 % 256) as u8,
-        (w / 65536 % 256) as u8,
-        (w / 256 % 256) as u8,
-        (w % 256) as u8,
-    ]
-}
+// A chain as a byte string: each word most significant byte first.
+#[derive(Clone, Copy)]
+struct Chain([u32; 16]);
 
-fn chain(out: &mut [u8], at: usize, words: [u32; 16]) -> usize {
-    let mut to = text::put(out, at, b" ");
-    let mut i = 0;
-    while i < 16 {
-        let four = spell(words[i]);
-        to = text::put_hex(out, to, &four);
-        i += 1;
+impl fmt::Display for Chain {
+    fn fmt<W: fmt::Write>(&self, f: &mut fmt::Formatter<W>) -> fmt::Result {
+        for word in self.0 {
+            write!(f, "{word:08x}")?;
+        }
+        Ok(())
     }
-    to
 }
 
-// What a digest is begun with: the family, m and the salt.
-fn settings(out: &mut [u8], at: usize, state: State) -> usize {
-    let family = state.family;
-    let salt = state.salt;
-    let a = number(out, at, family.number() as u64);
-    let b = number(out, a, state.m as u64);
-    bytes(out, b, &salt)
-}
+// A state, or what a call answers: the refusal's number or 0 first, and zeros behind the number of a refusal. The number and the values are what the crates' own
+// calls say of an answer, so that those are compared too.
+#[derive(Clone, Copy)]
+pub(crate) struct Shown<T>(pub(crate) T);
 
-// How far a digest is: the chain, the counts and the held block.
-fn progress(out: &mut [u8], at: usize, state: State) -> usize {
-    let words = state.chain;
-    let covered = state.covered;
-    let held = state.held;
-    let a = chain(out, at, words);
-    let b = number(out, a, covered.0);
-    let c = number(out, b, state.compressed);
-    bytes(out, c, &held)
-}
-
-pub(crate) fn state(out: &mut [u8], at: usize, state: State) -> usize {
-    let to = settings(out, at, state);
-    progress(out, to, state)
+// What a digest is begun with, and how far it is: the family, m and the salt; the chain, the counts and the held block.
+impl fmt::Display for Shown<State> {
+    fn fmt<W: fmt::Write>(&self, f: &mut fmt::Formatter<W>) -> fmt::Result {
+        let state = self.0;
+        let family = state.family.number();
+        let salt = Bytes(state.salt.as_slice());
+        let chain = Chain(state.chain);
+        let covered = state.covered.0;
+        let held = Bytes(state.held.as_slice());
+        write!(f, "{family} {} {salt} {chain} ", state.m)?;
+        write!(f, "{covered} {} {held}", state.compressed)
+    }
 }
 
 // The inner state and the padded key.
-pub(crate) fn keyed(out: &mut [u8], at: usize, keyed: Keyed) -> usize {
-    let key = keyed.key;
-    let to = state(out, at, keyed.inner);
-    bytes(out, to, &key)
-}
-
-// The refusal number or 0, and the bytes covered.
-pub(crate) fn tagged(out: &mut [u8], at: usize, tagged: Tagged) -> usize {
-    let a = number(out, at, tagged.number() as u64);
-    number(out, a, tagged.covered())
-}
-
-// The refusal number or 0, and whether the tag is right.
-pub(crate) fn tag_check(out: &mut [u8], at: usize, check: TagCheck) -> usize {
-    let to = number(out, at, check.number() as u64);
-    if check.is_yes() {
-        return text::put(out, to, b" yes");
+impl fmt::Display for Shown<Keyed> {
+    fn fmt<W: fmt::Write>(&self, f: &mut fmt::Formatter<W>) -> fmt::Result {
+        let keyed = self.0;
+        let inner = Shown(keyed.inner);
+        let key = Bytes(keyed.key.as_slice());
+        write!(f, "{inner} {key}")
     }
-    text::put(out, to, b" no")
 }
 
-// The refusal number or 0, the bytes and bits covered and the blocks compressed.
-pub(crate) fn report(out: &mut [u8], at: usize, report: Report) -> usize {
-    let a = number(out, at, report.number() as u64);
-    let b = number(out, a, report.covered());
-    let c = number(out, b, report.bits() as u64);
-    number(out, c, report.blocks())
+impl fmt::Display for Shown<Result<(), Refusal>> {
+    fn fmt<W: fmt::Write>(&self, f: &mut fmt::Formatter<W>) -> fmt::Result {
+        write!(f, "{}", answers::number(self.0))
+    }
 }
 
-// The refusal number or 0, and how many bytes were written.
-pub(crate) fn written(out: &mut [u8], at: usize, written: Written) -> usize {
-    let a = number(out, at, written.number() as u64);
-    number(out, a, written.length() as u64)
+// The bytes covered.
+impl fmt::Display for Shown<Result<Length, Refusal>> {
+    fn fmt<W: fmt::Write>(&self, f: &mut fmt::Formatter<W>) -> fmt::Result {
+        let covered = tag_answers::covered(self.0);
+        write!(f, "{} {covered}", answers::number(self.0))
+    }
 }
 
-fn verdict(out: &mut [u8], at: usize, verdict: Verdict) -> usize {
-    match verdict {
-        Verdict::NoClaim => text::put(out, at, b" noclaim"),
-        Verdict::Agrees => text::put(out, at, b" agrees"),
-        Verdict::Differs(register) => {
-            let to = text::put(out, at, b" differs");
-            number(out, to, register as u64)
+// Whether the tag is right.
+impl fmt::Display for Shown<Result<bool, Refusal>> {
+    fn fmt<W: fmt::Write>(&self, f: &mut fmt::Formatter<W>) -> fmt::Result {
+        let said = if tag_answers::is_yes(self.0) {
+            "yes"
+        } else {
+            "no"
+        };
+        write!(f, "{} {said}", answers::number(self.0))
+    }
+}
+
+// The bytes and bits covered and the blocks compressed.
+impl fmt::Display for Shown<Result<Coverage, Refusal>> {
+    fn fmt<W: fmt::Write>(&self, f: &mut fmt::Formatter<W>) -> fmt::Result {
+        let covered = reports::covered(self.0);
+        let bits = reports::bits(self.0);
+        let blocks = reports::blocks(self.0);
+        write!(f, "{} {covered} {bits} {blocks}", answers::number(self.0))
+    }
+}
+
+// How many bytes were written.
+impl fmt::Display for Shown<Result<usize, Refusal>> {
+    fn fmt<W: fmt::Write>(&self, f: &mut fmt::Formatter<W>) -> fmt::Result {
+        let size = answers::length(self.0);
+        write!(f, "{} {size}", answers::number(self.0))
+    }
+}
+
+impl fmt::Display for Shown<Verdict> {
+    fn fmt<W: fmt::Write>(&self, f: &mut fmt::Formatter<W>) -> fmt::Result {
+        match self.0 {
+            Verdict::NoClaim => write!(f, "noclaim"),
+            Verdict::Agrees => write!(f, "agrees"),
+            Verdict::Differs(register) => write!(f, "differs {register}"),
         }
     }
 }
 
-// The refusal number or 0, its offset, the registers, the events, the blocks compressed and the verdict.
-pub(crate) fn checked(out: &mut [u8], at: usize, checked: Checked) -> usize {
-    let place = checked.place();
-    let a = number(out, at, checked.number() as u64);
-    let b = number(out, a, place.offset() as u64);
-    let c = number(out, b, checked.registers() as u64);
-    let d = number(out, c, checked.events() as u64);
-    let e = number(out, d, checked.blocks() as u64);
-    verdict(out, e, checked.verdict())
+// The refusal's offset, the registers, the events, the blocks compressed and the verdict.
+impl fmt::Display for Shown<Result<Findings, Refused>> {
+    fn fmt<W: fmt::Write>(&self, f: &mut fmt::Formatter<W>) -> fmt::Result {
+        let checked = self.0;
+        let offset = log_answers::offset(checked.place());
+        write!(f, "{} {offset} {} ", checked.number(), checked.registers())?;
+        let verdict = Shown(checked.verdict());
+        write!(f, "{} {} {verdict}", checked.events(), checked.blocks())
+    }
+}
+
+// What a call answers, and the state handed back.
+impl<T: Copy, S: Copy> fmt::Display for Shown<Handed<T, S>>
+where
+    Shown<Result<T, Refusal>>: fmt::Display,
+    Shown<S>: fmt::Display,
+{
+    fn fmt<W: fmt::Write>(&self, f: &mut fmt::Formatter<W>) -> fmt::Result {
+        let handed = self.0;
+        write!(f, "{} {}", Shown(handed.answer), Shown(handed.state))
+    }
 }

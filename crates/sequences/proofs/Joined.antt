@@ -9,8 +9,8 @@ use lib.ListN.{length, length-append}
 use borrow.Author.Tests.{ltb-false, le-ltb}
 use Rattle.answers.specs.declared.refusal.Refusal.{Refusal}
 use Rattle.answers.specs.declared.refusal.Refusal.TheVariants.{MessageLimit, StateInconsistent}
-use Rattle.answers.specs.declared.refusal.Answer.{Answer}
-use Rattle.answers.specs.declared.refusal.Answer.TheVariants.{Accepted, Refused}
+use Rattle.answers.specs.Refusal.{Answer}
+use Rattle.std.specs.Prelude.{Ok, Err}
 use Rattle.bits.specs.declared.LastBits.{LastBits}
 use Rattle.bits.specs.Message.{message_of}
 use Rattle.state.specs.declared.State.{State}
@@ -24,11 +24,11 @@ use Rattle.state.proofs.Soundness.{sound, consistent_of_lem}
 use Rattle.digest.proofs.Cuts.{absorbed_append, still_sound, state_absorbed}
 use Rattle.digest.proofs.Shot.{passed, begin_state, consistent, finish_one_shot}
 
-module _ (m : ℕ) (salt : List ℕ) (h : begin_answer m salt ≡ Accepted) where
+module _ (m : ℕ) (salt : List ℕ) (h : begin_answer m salt ≡ Ok tt) where
   pub begin_consistent : consistent_of (begin_of m salt).state ≡ true
   begin_consistent = rw (begin_state m salt h) (consistent m salt h [] (omega arith))
 
-pub begin_refused : (m : ℕ) (salt : List ℕ) (r : Refusal) → begin_answer m salt ≡ Refused r → (begin_of m salt).state ≡ zero_state
+pub begin_refused : (m : ℕ) (salt : List ℕ) (r : Refusal) → begin_answer m salt ≡ Err r → (begin_of m salt).state ≡ zero_state
 unfolding begin_of
 begin_refused m salt r h = rw h
 
@@ -37,17 +37,17 @@ unfolding consistent_of zero_state allowed
 zero_inconsistent = refl
 
 module _ (s : State) (xs : List ℕ) where
-  pub add_accepted : add_answer s xs ≡ Accepted → (consistent_of s ≡ true) × (s.covered.0 + length xs ≤ limit)
+  pub add_accepted : add_answer s xs ≡ Ok tt → (consistent_of s ≡ true) × (s.covered.0 + length xs ≤ limit)
   unfolding add_answer
   add_accepted h =
       let p = passed (consistent_of s) (ltb limit (s.covered.0 + length xs)) StateInconsistent MessageLimit h in
       (p.0, ltb-false limit (s.covered.0 + length xs) p.1)
 
-  pub add_refused : (r : Refusal) → add_answer s xs ≡ Refused r → (add_of s xs).state ≡ s
+  pub add_refused : (r : Refusal) → add_answer s xs ≡ Err r → (add_of s xs).state ≡ s
   unfolding add_of
   add_refused r h = rw h
 
-  add_in : consistent_of s ≡ true → s.covered.0 + length xs ≤ limit → add_of s xs ≡ record { answer = Accepted; state = absorbed s xs }
+  add_in : consistent_of s ≡ true → s.covered.0 + length xs ≤ limit → add_of s xs ≡ record { answer = Ok tt; state = absorbed s xs }
   unfolding add_of add_answer
   add_in h room = rw (h, le-ltb limit (s.covered.0 + length xs) room)
 
@@ -60,7 +60,7 @@ module _ (s : State) (full : length s.held ≡ 128) where
   absorbed_consistent h xs room = consistent_of_lem (absorbed s xs) (still_sound s (sound s h) full xs room)
 
   -- An accepted add hands back a consistent state.
-  pub add_consistent : (xs : List ℕ) → add_answer s xs ≡ Accepted → consistent_of (add_of s xs).state ≡ true
+  pub add_consistent : (xs : List ℕ) → add_answer s xs ≡ Ok tt → consistent_of (add_of s xs).state ≡ true
   unfolding add_of
   add_consistent xs h = rw h (absorbed_consistent (add_accepted s xs h).0 xs (add_accepted s xs h).1)
 
@@ -84,8 +84,8 @@ module _ (m : ℕ) (salt : List ℕ) where
   call_joined xs (add ys) = by (add_answer (state_of m salt xs) ys)
     where
       by : (a : Answer) → if_accepted a (absorbed (state_of m salt xs) ys) (state_of m salt xs) ≡ state_of m salt (xs ++ if_accepted a ys [])
-      by Accepted = state_absorbed m salt xs ys
-      by (Refused r) = rw append-nil
+      by (Ok u) = state_absorbed m salt xs ys
+      by (Err r) = rw append-nil
   call_joined xs (finish last out) = rw append-nil
 
   call_room : (xs : List ℕ) → length xs ≤ limit → (call : Call) → length (xs ++ taken (state_of m salt xs) call) ≤ limit
@@ -93,8 +93,8 @@ module _ (m : ℕ) (salt : List ℕ) where
   call_room xs room (add ys) = by (add_answer (state_of m salt xs) ys) refl
     where
       by : (a : Answer) → add_answer (state_of m salt xs) ys ≡ a → length (xs ++ if_accepted a ys []) ≤ limit
-      by Accepted h = rw length-append (add_accepted (state_of m salt xs) ys h).1
-      by (Refused r) h = rw append-nil room
+      by (Ok u) h = rw length-append (add_accepted (state_of m salt xs) ys h).1
+      by (Err r) h = rw append-nil room
   call_room xs room (finish last out) = rw append-nil room
 
   pub after_joined : (xs : List ℕ) (calls : List Call) → after (state_of m salt xs) calls ≡ state_of m salt (xs ++ joined (state_of m salt xs) calls)
@@ -107,7 +107,7 @@ module _ (m : ℕ) (salt : List ℕ) where
   joined_room xs room [] = rw append-nil room
   joined_room xs room (call ∷ calls) = rw (call_joined xs call, ← append_assoc) (joined_room (xs ++ taken (state_of m salt xs) call) (call_room xs room call) calls)
 
-  module _ (calls : List Call) (h : begin_answer m salt ≡ Accepted) where
+  module _ (calls : List Call) (h : begin_answer m salt ≡ Ok tt) where
     -- After any calls from an accepted begin, the state is that of the accepted bytes joined.
     pub calls_joined : after (begin_of m salt).state calls ≡ state_of m salt (joined (begin_of m salt).state calls)
     calls_joined = rw (begin_state m salt h) (after_joined [] calls)
@@ -117,6 +117,6 @@ module _ (m : ℕ) (salt : List ℕ) where
 
     -- Finishing it with any last bits reports and writes what one-shot does for those bytes and bits.
     pub calls_finish : (last : LastBits) (out : List ℕ)
-        → ((finish_of (after (begin_of m salt).state calls) last out).report ≡ one_shot_of m salt (message_of (joined (begin_of m salt).state calls) last) out)
+        → ((finish_of (after (begin_of m salt).state calls) last out).answer ≡ one_shot_of m salt (message_of (joined (begin_of m salt).state calls) last) out)
         × (finish_buffer (after (begin_of m salt).state calls) last out ≡ one_shot_buffer m salt (message_of (joined (begin_of m salt).state calls) last) out)
     calls_finish last out = rw calls_joined (finish_one_shot m salt h (joined (begin_of m salt).state calls) joined_length last out)

@@ -2,7 +2,6 @@
 #![tactic(auto)]
 
 ghost use Rattle.std.specs.Prelude.{◌≡◌};
-ghost use Rattle.family.specs.declared.Family.TheVariants.{Small, Large};
 ghost use Rattle.startup.specs.Startup.{master_of, start_of};
 
 use family::Family;
@@ -57,40 +56,22 @@ fn compressed(form: bool, family: Family, m: u16) -> [u32; 16]
     ensures { result ≡ start_of family m }
 {
     let mut block = [0u8; 128];
-    block[0] = (m % 256) as u8;
-    block[1] = (m / 256) as u8;
+    block[..2].copy_from_slice(&m.to_le_bytes());
     let mut chain = master_value(family);
     chaining::start(form, family, &mut chain, &block);
     chain
-}
-
-fn small_value(form: bool, m: u16) -> [u32; 16]
-    ensures { result ≡ start_of Small m }
-{
-    match m {
-        160 => START_160,
-        224 => START_224,
-        256 => START_256,
-        _ => compressed(form, Family::Small, m),
-    }
-}
-
-fn large_value(form: bool, m: u16) -> [u32; 16]
-    ensures { result ≡ start_of Large m }
-{
-    match m {
-        384 => START_384,
-        512 => START_512,
-        _ => compressed(form, Family::Large, m),
-    }
 }
 
 // The starting value for m bits.
 pub fn starting_value(form: bool, family: Family, m: u16) -> [u32; 16]
     ensures { result ≡ start_of family m }
 {
-    match family {
-        Family::Small => small_value(form, m),
-        Family::Large => large_value(form, m),
+    match (family, m) {
+        (Family::Small, 160) => START_160,
+        (Family::Small, 224) => START_224,
+        (Family::Small, 256) => START_256,
+        (Family::Large, 384) => START_384,
+        (Family::Large, 512) => START_512,
+        _ => compressed(form, family, m),
     }
 }

@@ -1,5 +1,4 @@
 pub mod Filling
 pub mod Limits
 pub mod Soundness
-pub mod Tests
 pub mod Zeros

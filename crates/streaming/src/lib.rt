@@ -1,100 +1,96 @@
-// What the programs that digest standard input share: a part of the input read, all of it added to a running digest, and the line of a refusal.
+// What the programs share that digest standard input: all of it added to a running state, bytes spelled in hex, and the line of a refusal.
 #![tactic(auto)]
 
-use answers::{Answer, Refusal};
-use state::State;
-use std::io;
-use std::io::Read;
+ghost use Rattle.std.specs.Prelude.{◌≡◌, ℕ, List};
+ghost use Rattle.answers.specs.declared.handed.Handed.{Handed};
+ghost use Rattle.digest.specs.Calls.{add_of};
+ghost use Rattle.keyed.specs.Calls.{key_add_of};
 
+use answers::{Handed, Refusal};
+use keyed_state::Keyed;
+use state::State;
+use std::io::Read;
+use std::{fmt, io};
+
+// A state that goes on with each part of a message.
+pub trait Running: Copy {
+    ghost added: { Self → List ℕ → Handed (Unit {0}) Self };
+
+    fn add(self, form: bool, bytes: &[u8]) -> Handed<(), Self>
+        ensures { result ≡ added self bytes.now };
+}
+
+impl Running for State {
+    ghost added = { add_of };
+
+    fn add(self, form: bool, bytes: &[u8]) -> Handed<(), State> {
+        digest::add(form, self, bytes)
+    }
+}
+
+impl Running for Keyed {
+    ghost added = { key_add_of };
+
+    fn add(self, form: bool, bytes: &[u8]) -> Handed<(), Keyed> {
+        keyed::add(form, self, bytes)
+    }
+}
+
+// Why not all of the input went in: a read failed, or what it brought was refused.
 #[derive(Clone, Copy)]
-pub enum Status {
-    More,
-    End,
+pub enum Stop {
     Failed,
     Refused(Refusal),
 }
 
-#[derive(Clone, Copy)]
-pub struct Turn {
-    pub state: State,
-    pub status: Status,
-}
-
-// How many bytes a read brought, none at the end of the input or where it failed.
-#[derive(Clone, Copy)]
-pub struct Got {
-    pub size: usize,
-    pub failed: bool,
-}
-
-// Reads once to the buffer's front.
-pub fn read_some(input: &mut impl Read, buffer: &mut [u8]) -> Got {
-    match input.read(buffer) {
-        Ok(size) => Got {
-            size: size,
-            failed: false,
-        },
-        Err(_) => Got {
-            size: 0,
-            failed: true,
-        },
+impl From<Refusal> for Stop {
+    fn from(refusal: Refusal) -> Stop {
+        Stop::Refused(refusal)
     }
 }
 
-fn status_of(answer: Answer) -> Status {
-    match answer {
-        Answer::Accepted => Status::More,
-        Answer::Refused(refusal) => Status::Refused(refusal),
-    }
-}
-
-// Reads once, and adds what came.
-fn add_some(input: &mut impl Read, form: bool, state: State, buffer: &mut [u8]) -> Turn {
-    let got = read_some(input, buffer);
-    if got.failed {
-        return Turn {
-            state: state,
-            status: Status::Failed,
-        };
-    }
-    if got.size == 0 {
-        return Turn {
-            state: state,
-            status: Status::End,
-        };
-    }
-    let step = digest::add(form, state, text::first(buffer, got.size));
-    let next = step.state;
-    let answer = step.answer;
-    Turn {
-        state: next,
-        status: status_of(answer),
-    }
-}
-
-// Reads to the end. A proved loop has to end, and nothing says that the input does: the turns are as many as no run uses up.
-pub fn add_all(input: &mut impl Read, form: bool, state: State, buffer: &mut [u8]) -> Turn {
+// Reads to the end, and adds what each read brings. A proved loop has to end, and nothing says that the input does: the turns are as many as no
+// run uses up. The loop of `second_opinion` answers lines, and ends where a read fails: it would take closures for a read, a failure and the end to be this one, and be no plainer.
+pub fn add_all<S: Running>(
+    input: &mut impl Read,
+    form: bool,
+    state: S,
+    buffer: &mut [u8],
+) -> Result<S, Stop> {
     let mut reached = state;
     for _ in 0..u64::MAX {
-        let turn = add_some(input, form, reached, buffer);
-        let status = turn.status;
-        let Status::More = status else {
-            return turn;
-        };
-        let next = turn.state;
-        reached = next;
+        match input.read(buffer) {
+            Ok(0) => return Ok(reached),
+            Ok(size) => {
+                let handed = reached.add(form, &buffer[..size]);
+                handed.answer?;
+                reached = handed.state;
+            }
+            Err(_) => return Err(Stop::Failed),
+        }
     }
-    Turn {
-        state: reached,
-        status: Status::Failed,
+    Err(Stop::Failed)
+}
+
+// Bytes, two lower-case digits each.
+#[derive(Clone, Copy)]
+pub struct Hex<'a>(pub &'a [u8]);
+
+impl fmt::Display for Hex<'_> {
+    fn fmt<W: fmt::Write>(&self, f: &mut fmt::Formatter<W>) -> fmt::Result {
+        for byte in self.0 {
+            write!(f, "{byte:02x}")?;
+        }
+        Ok(())
     }
 }
 
-// Writes the line of a refusal to standard output or standard error.
+// Writes the line of a refusal to standard output or standard error. It is put into a buffer, since formatting would take a loader many times its
+// own size.
 pub fn print_refusal(to: &impl Print, number: u8) -> io::Result<()> {
     let mut line = [0u8; 32];
     let at = text::put(&mut line, 0, b"refused ");
-    let end = text::put_decimal(&mut line, at, number as u64);
+    let end = text::put_decimal(&mut line, at, u64::from(number));
     let size = text::put(&mut line, end, b"\n");
     to.write_all(text::first(&line, size))
 }

@@ -4,7 +4,7 @@
 ghost use Rattle.std.specs.Prelude.{◌≡◌};
 ghost use Rattle.tables.specs.Tables.{round_tables, column_by, round_by};
 
-// The four tables, one behind the other. A function that names a constant array copies it: see `all`.
+// The four tables, one behind the other.
 const ROUND: [u32; 1024] = [
     0xc66363a5, 0xf87c7c84, 0xee777799, 0xf67b7b8d, 0xfff2f20d, 0xd66b6bbd, 0xde6f6fb1, 0x91c5c554,
     0x60303050, 0x02010103, 0xce6767a9, 0x562b2b7d, 0xe7fefe19, 0xb5d7d762, 0x4dababe6, 0xec76769a,
@@ -136,11 +136,18 @@ const ROUND: [u32; 1024] = [
     0x4141c382, 0x9999b029, 0x2d2d775a, 0x0f0f111e, 0xb0b0cb7b, 0x5454fca8, 0xbbbbd66d, 0x16163a2c,
 ];
 
-// The tables by value: named once for a run of blocks, and lent from there.
+// The tables where they stand: a borrowed constant is read in its place, and nothing is copied.
+pub fn lent() -> &'static [u32; 1024]
+    ensures { result.now ≡ round_tables }
+{
+    &ROUND
+}
+
+// The tables by value.
 pub fn all() -> [u32; 1024]
     ensures { result ≡ round_tables }
 {
-    ROUND
+    *lent()
 }
 
 // A column of the next state: the entry of each row's byte, and the subkey's word.
@@ -154,7 +161,7 @@ fn column(t: &[u32; 1024], a: u32, b: u32, c: u32, d: u32, key: u32) -> u32
         ^ key
 }
 
-// The round over any lent tables; over those of `all` it is the AES round.
+// The round over any lent tables; over those of `lent` it is the AES round.
 pub fn round(t: &[u32; 1024], x: [u32; 4], key: [u32; 4]) -> [u32; 4]
     ensures { result ≡ round_by t.now x key }
 {

@@ -1,22 +1,23 @@
 -- The number and value of what a keyed finish reports (document 02, Eight: "Finish reports the message's bytes without the key block, and no blocks").
-use Rattle.std.specs.Prelude.{ℕ}
-use Rattle.answers.specs.declared.refusal.Answer.{Answer}
-use Rattle.answers.specs.declared.refusal.Answer.TheVariants as answer
-use Rattle.tag_answers.specs.declared.tagged.Tagged.{Tagged}
-use Rattle.tag_answers.specs.declared.tagged.Tagged.TheVariants.{Covers, Refused}
-use Rattle.answers.specs.Refusal.{refusal_number}
+use Rattle.std.specs.Prelude.{ℕ, Result, Ok, Err}
+use Rattle.answers.specs.declared.refusal.Refusal.{Refusal}
+use Rattle.answers.specs.Refusal.{Answer, number_of}
+use Rattle.answers.specs.Handed.{made_if}
+use Rattle.reports.specs.declared.Length.{Length}
+
+-- the message's bytes, or a refusal
+abbrev pub Tagged : Type 0
+Tagged = Result Length Refusal
 
 -- 0 where the call is accepted
 abbrev pub tagged_number : Tagged → ℕ
-tagged_number (Covers n) = 0
-tagged_number (Refused r) = refusal_number r
+tagged_number t = number_of t
 
 -- bytes covered, and 0 on a refusal
 abbrev pub tagged_covered : Tagged → ℕ
-tagged_covered (Covers n) = n.0
-tagged_covered (Refused r) = 0
+tagged_covered (Ok n) = n.0
+tagged_covered (Err r) = 0
 
 -- the report of a call's answer
 abbrev pub tagged : Answer → ℕ → Tagged
-tagged answer.Accepted n = Covers (record { 0 = n })
-tagged (answer.Refused r) n = Refused r
+tagged a n = made_if a (record { 0 = n })

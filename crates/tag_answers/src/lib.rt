@@ -1,8 +1,8 @@
-// What the keyed calls answer: finish with what a tag covers, the tag check with yes or no.
+// What the keyed calls' answers tell, a refusal's too: how many bytes a finish covers, and whether a tag check says yes.
 #![tactic(auto)]
 
 mod check;
 mod tagged;
 
-pub use check::TagCheck;
-pub use tagged::Tagged;
+pub use check::is_yes;
+pub use tagged::covered;

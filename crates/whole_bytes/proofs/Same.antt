@@ -113,7 +113,7 @@ module _ (s : State) (h : s.m % 8 ≡ 0) where
     unfolding finish_answer byte_finish_answer
     finish_answer_lem = rw (consistent_whole, none_fits, size_whole s.m h)
 
-    pub finish_whole : (finish_of s no_bits out ≡ record { report = reported (byte_finish_answer s out) s.covered.0 0 (s.compressed + length (byte_closing s)); state = s })
+    pub finish_whole : (finish_of s no_bits out ≡ record { answer = reported (byte_finish_answer s out) s.covered.0 0 (s.compressed + length (byte_closing s)); state = s })
         × (finish_buffer s no_bits out ≡ byte_finish_buffer s out)
     unfolding finish_of finish_buffer byte_finish_buffer
     finish_whole = (rw (finish_answer_lem, closing_whole, none_count), rw (finish_answer_lem, digest_whole_state))

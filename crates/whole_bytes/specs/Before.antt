@@ -4,7 +4,7 @@ use Rattle.family.specs.declared.Family.{Family}
 use Rattle.family.specs.declared.Family.TheVariants.{Small, Large}
 use Rattle.family.specs.Family.{family_of, block_bytes, length_bytes}
 use Rattle.answers.specs.declared.refusal.Refusal.TheVariants.{DigestLength, SaltSize, MessageLimit, StateInconsistent, BufferShort}
-use Rattle.answers.specs.declared.refusal.Answer.{Answer}
+use Rattle.answers.specs.Refusal.{Answer}
 use Rattle.answers.specs.Refusal.{judged, if_accepted}
 use Rattle.answers.specs.Written.{written}
 use Rattle.fields.specs.Fields.{le, bytes_of}

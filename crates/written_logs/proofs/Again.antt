@@ -9,9 +9,8 @@ use native.Mathlib.Omega.{arith}
 use lib.Dec.{eqb}
 use lib.ListN.{length}
 use borrow.Author.Tests.{eq-eqb, ne_eqb, le-leb, lt-leb}
-use Rattle.answers.specs.declared.refusal.Answer.TheVariants as answer
+use Rattle.std.specs.Prelude.{Ok}
 use Rattle.log_answers.specs.declared.reading.Layout.{Layout}
-use Rattle.log_answers.specs.declared.reading.Reading.TheVariants.{Whole}
 use Rattle.log_answers.specs.declared.checked.Verdict.TheVariants.{NoClaim, Agrees}
 use Rattle.layout.specs.Layout.{reading_of, salt_of, starts_of, events_of, claims_of}
 use Rattle.records.specs.Events.{Event, event_list}
@@ -25,6 +24,7 @@ use Rattle.log_laws.proofs.Exact.{exact}
 use Rattle.logger.specs.Write.{registers_in, events_in, starts_fit, events_fit, foreign, parts_answer, claims_for, log_for}
 use Rattle.written_logs.proofs.Back.{placed, written_read, written_salt, written_starts, written_events}
 use Rattle.written_logs.proofs.Comparing.{compared_claimed, compared_equal, verdict_claimed}
+use Rattle.std.specs.Prelude.{Ok}
 
 -- events whose registers are all below r
 below_own : (r : ℕ) (es : List Event) → below r es → foreign r es ≡ false
@@ -34,7 +34,7 @@ below_own r (e ∷ es) b = rw (lt-leb r e.register (b e (Memᴰ.head refl))) (be
 
 -- parts of so many registers and events pass the tests
 parts_pass : (salt starts events : List ℕ) (r n : ℕ) → (length salt ≡ 0) ⊎ (length salt ≡ 32) → length starts ≡ 32 * r → 1 ≤ r → r ≤ 24
-    → length events ≡ 36 * n → n ≤ 1024 → below r (event_list n events) → parts_answer salt starts events ≡ answer.Accepted
+    → length events ≡ 36 * n → n ≤ 1024 → below r (event_list n events) → parts_answer salt starts events ≡ Ok tt
 unfolding parts_answer starts_fit events_fit
 parts_pass salt starts events r n s e least most f counted b =
     let whole : length starts % 32 ≡ 0 = omega arith in
@@ -43,9 +43,9 @@ parts_pass salt starts events r n s e least most f counted b =
     let h : events_in events ≡ n = omega arith in
     rw (one_of (length salt) 0 32 s, whole, all, g, h, within r 1 24 least most, le-leb n 1024 counted, below_own r (event_list n events) b)
 
-module _ (log : List ℕ) (at : Layout) (e : reading_of log ≡ Whole at) where
+module _ (log : List ℕ) (at : Layout) (e : reading_of log ≡ Ok at) where
   -- its sections are never refused
-  pub again_accepted : parts_answer (salt_of log at) (starts_of log at) (events_of log at) ≡ answer.Accepted
+  pub again_accepted : parts_answer (salt_of log at) (starts_of log at) (events_of log at) ≡ Ok tt
   again_accepted =
       let c = counts log at e in
       parts_pass (salt_of log at) (starts_of log at) (events_of log at) at.registers at.events (rw (salt_length log at e) c.salt)
@@ -95,7 +95,7 @@ module _ (log : List ℕ) (at : Layout) (e : reading_of log ≡ Whole at) where
       }
 
   -- the log written again has the same layout and sections, but for claims that differ, in whose place stand the end values
-  pub again_read : reading_of again ≡ Whole at
+  pub again_read : reading_of again ≡ Ok at
   again_read = rw placed_again at (written_read (salt_of log at) (starts_of log at) (events_of log at) wished again_accepted)
 
   pub again_salt : salt_of again at ≡ salt_of log at

@@ -9,12 +9,11 @@ use lib.Dec.{ltb}
 use lib.ListN.{length, take, drop}
 use lib.Seq.{take_at, drop_at}
 use Rattle.answers.specs.declared.refusal.Refusal.TheVariants.{BufferShort}
-use Rattle.answers.specs.declared.refusal.Answer.{Answer}
-use Rattle.answers.specs.declared.refusal.Answer.TheVariants.{Accepted, Refused}
-use Rattle.answers.specs.declared.written.Written.TheVariants.{Bytes}
+use Rattle.answers.specs.Refusal.{Answer}
+use Rattle.std.specs.Prelude.{Ok, Err}
 use Rattle.answers.specs.Refusal.{judged, first_of}
 use Rattle.log_answers.specs.declared.reading.Layout.{Layout}
-use Rattle.log_answers.specs.declared.reading.Reading.TheVariants.{Whole}
+use Rattle.std.specs.Prelude.{Ok}
 use Rattle.layout.specs.Layout.{reading_of, salt_of, starts_of, events_of, claims_of}
 use Rattle.layout.proofs.Spelled.{Fitting, layout_for, spelled_length, spelled_read, spelled_salt, spelled_starts, spelled_events, spelled_claims}
 use Rattle.bad_logs.proofs.Far.{accepted_size}
@@ -26,14 +25,14 @@ claim_count_lem : (wish : Bool) (r : ℕ) → (cond wish r 0 ≡ 0) ⊎ (cond wi
 claim_count_lem false r = inl refl
 claim_count_lem true r = inr refl
 
-claims_length : (salt starts events : List ℕ) (wish : Bool) → parts_answer salt starts events ≡ Accepted
+claims_length : (salt starts events : List ℕ) (wish : Bool) → parts_answer salt starts events ≡ Ok tt
     → length (claims_for salt starts events wish) ≡ 32 * cond wish (registers_in starts) 0
 unfolding claims_for
 claims_length salt starts events false ok = refl
 claims_length salt starts events true ok = end_values_length salt starts events ok
 
 -- parts that are not refused
-module _ (salt starts events : List ℕ) (wish : Bool) (ok : parts_answer salt starts events ≡ Accepted) where
+module _ (salt starts events : List ℕ) (wish : Bool) (ok : parts_answer salt starts events ≡ Ok tt) where
   -- as many claims as wished for
   abbrev pub claimed : ℕ
   claimed = cond wish (registers_in starts) 0
@@ -56,7 +55,7 @@ module _ (salt starts events : List ℕ) (wish : Bool) (ok : parts_answer salt s
   unfolding log_for
   written_most = accepted_size (log_for salt starts events wish) placed (spelled_read _ _ _ _ _ _ _ written_fit)
 
-  pub written_read : reading_of (log_for salt starts events wish) ≡ Whole placed
+  pub written_read : reading_of (log_for salt starts events wish) ≡ Ok placed
   unfolding log_for
   written_read = spelled_read _ _ _ _ _ _ _ written_fit
 
@@ -78,14 +77,14 @@ module _ (salt starts events : List ℕ) (wish : Bool) (ok : parts_answer salt s
   written_claims = spelled_claims _ _ _ _ _ _ _ written_fit
 
 -- Where write is not refused, the buffer begins with the log, and the bytes past it stay.
-module _ (salt starts events : List ℕ) (wish : Bool) (out : List ℕ) (ok : write_answer salt starts events wish (length out) ≡ Accepted) where
-  pub parts_accepted : parts_answer salt starts events ≡ Accepted
+module _ (salt starts events : List ℕ) (wish : Bool) (out : List ℕ) (ok : write_answer salt starts events wish (length out) ≡ Ok tt) where
+  pub parts_accepted : parts_answer salt starts events ≡ Ok tt
   unfolding write_answer
   parts_accepted = by (parts_answer salt starts events) ok
     where
-      by : (a : Answer) → first_of a (judged ((ltb (length out) (length (log_for salt starts events wish)), BufferShort) ∷ [])) ≡ Accepted → a ≡ Accepted
-      by Accepted h = refl
-      by (Refused r) h = h
+      by : (a : Answer) → first_of a (judged ((ltb (length out) (length (log_for salt starts events wish)), BufferShort) ∷ [])) ≡ Ok tt → a ≡ Ok tt
+      by (Ok u) h = refl
+      by (Err r) h = h
 
   pub written_front : take (length (log_for salt starts events wish)) (write_buffer salt starts events wish out) ≡ log_for salt starts events wish
   unfolding write_buffer
@@ -100,6 +99,6 @@ module _ (salt starts events : List ℕ) (wish : Bool) (out : List ℕ) (ok : wr
       rw ok (drop_at log (drop (length log) out) (length log) refl)
 
   -- and the length answered is the log's
-  pub written_answer : write_of salt starts events wish (length out) ≡ Bytes (length (log_for salt starts events wish))
+  pub written_answer : write_of salt starts events wish (length out) ≡ Ok (length (log_for salt starts events wish))
   unfolding write_of
   written_answer = rw ok

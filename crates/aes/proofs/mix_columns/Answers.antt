@@ -1,15 +1,12 @@
 use borrow.Author.Rules.{rules}
 use mathlib.Core.List.{[]}
 use Rattle.aes.specs.Round.{mix_columns}
-use Rattle.aes.proofs.Columns.{turned_start, turned_more, turned_four}
+use Rattle.aes.proofs.Columns.{turned_more, turned_four}
 use Rattle.aes.proofs.mix_columns.Invariants.{done}
 use Rattle.aes.proofs.mix_columns.Goals as goal
 
-pub loop-c-init : goal.loop-c-init
-loop-c-init c = turned_start [] done 4 _ (search rules)
-
 pub loop-c-preserved : goal.loop-c-preserved
-loop-c-preserved c = turned_more [] done c.loop-c.invariant (search rules) c.mix_column-next.ensures
+loop-c-preserved c = turned_more [] done c.loop-c.invariant (search rules) c.mix_column.ensures
 
 pub returns : goal.returns
 unfolding mix_columns

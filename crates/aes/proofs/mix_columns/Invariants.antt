@@ -1,5 +1,4 @@
 -- After c turns the first c columns are done.
-use Prim.Native.Nat.{◌-◌}
 use mathlib.Core.List.{List, []}
 use Prim.Native.Nat.{ℕ}
 use Rattle.aes.specs.Round.{four, mix_byte}
@@ -11,6 +10,3 @@ done a = four (λ r. mix_byte r a)
 
 abbrev pub invariant-loop-c : goal.invariant-loop-c
 invariant-loop-c l = Turned [] done 4 l.initial.t l.t l.c
-
-abbrev pub decreases-loop-c : goal.decreases-loop-c
-decreases-loop-c l = 4 - l.c

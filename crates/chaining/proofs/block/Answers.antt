@@ -18,6 +18,3 @@ pub returns-in-Small : goal.returns-in-Small
 returns-in-Small c =
     let a = c.args in
     rw c.in-Small.is (fed_window a.chain.now a.block.now a.counter a.salt.now c.small.ensures c.feed.ensures)
-
-pub returns-in-Large : goal.returns-in-Large
-returns-in-Large c = rw c.in-Large.is c.large_by_bytes.ensures

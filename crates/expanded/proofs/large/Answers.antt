@@ -3,4 +3,4 @@ use Rattle.expanded.proofs.large.Goals as goal
 
 pub returns : goal.returns
 unfolding compress_of
-returns c = rw (c.feed.ensures, c.large.ensures, c.expand.ensures)
+returns g c = rw (c.feed.ensures, c.large.ensures, c.expand.ensures)

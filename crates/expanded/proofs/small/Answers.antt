@@ -3,4 +3,4 @@ use Rattle.expanded.proofs.small.Goals as goal
 
 pub returns : goal.returns
 unfolding compress_of
-returns c = rw (c.feed.ensures, c.small.ensures, c.expand.ensures)
+returns g c = rw (c.feed.ensures, c.small.ensures, c.expand.ensures)

@@ -16,21 +16,21 @@ pub nonzero_div-whole : goal.nonzero_div-whole
 nonzero_div-whole c = omega (arith, c.block_bytes-size.ensures, block_pos c.of-family.result)
 
 pub overflow_mul-whole : goal.overflow_mul-whole
-overflow_mul-whole c = omega (arith, div-mul-le_self (length c.args.bytes.now) c.block_bytes-size.result, c.requires.0)
+overflow_mul-whole c = omega (arith, div-mul-le_self (length c.args.bytes.now) c.block_bytes-size.result, c.requires)
 
 pub close-count-requires : goal.close-count-requires
 close-count-requires c =
     let filled : c.rest_of-held.result ≡ fill 128 (drop (length c.args.bytes.now / block_bytes c.of-family.result * block_bytes c.of-family.result) c.args.bytes.now) = rest_held c.of-family.result c.args.bytes.now c.block_bytes-size.ensures c.rest_of-held.ensures in
-    (c.requires.0, c.requires.1, rest_zero c.of-family.result c.args.bytes.now filled, inl refl)
+    (c.requires, rest_zero c.of-family.result c.args.bytes.now filled, inl refl)
 
 pub overflow_add-result : goal.overflow_add-result
 overflow_add-result c =
     let few : c.close-count.result ≤ 2 = rw c.close-count.ensures.1 (last_max _ _ _ _) in
-    omega (arith, few, div-le_self (length c.args.bytes.now) c.block_bytes-size.result, c.requires.0)
+    omega (arith, few, div-le_self (length c.args.bytes.now) c.block_bytes-size.result, c.requires)
 
 pub returns : goal.returns
 returns c =
     let filled : c.rest_of-held.result ≡ fill 128 (drop (length c.args.bytes.now / block_bytes c.of-family.result * block_bytes c.of-family.result) c.args.bytes.now) = rest_held c.of-family.result c.args.bytes.now c.block_bytes-size.ensures c.rest_of-held.ensures in
     let a = c.args in
     rw (← c.of-family.ensures, c.block_bytes-size.ensures)
-    (chained_over c.of-family.result a.bytes.now a.m a.salt.now a.start.now a.last c.requires.0 filled c.close-count.ensures)
+    (chained_over c.of-family.result a.bytes.now a.m a.salt.now a.start.now a.last.bits c.requires filled c.close-count.ensures)

@@ -35,10 +35,11 @@ returns-then-out-digest_bytes c =
     (hash_short a.m a.salt.now a.start.now a.bytes.now a.last a.out.now ok c.if-bytes-gt-LIMIT.false fits c.digest_bytes.ensures c.if-out-digest_bytes.true) in
     record { result = both.0; buffer = both.1 }
 
+pub invariant_of-chained : goal.invariant_of-chained
+invariant_of-chained c = record { fit = held c.fits.ensures c.if-not-fits.false }
+
 pub chained-all-requires : goal.chained-all-requires
-chained-all-requires c =
-    let fits : last_fits c.args.last ≡ true = held c.fits.ensures c.if-not-fits.false in
-    (c.if-bytes-gt-LIMIT.false, fits)
+chained-all-requires c = c.if-bytes-gt-LIMIT.false
 
 pub returns : goal.returns
 returns c =

@@ -1,22 +1,14 @@
-use mathlib.Core.Path.{refl, sym, ◌∙◌}
-use native.Mathlib.Omega.{arith}
-use Rattle.hex_bytes.proofs.Digits.{digit_passed, digit_missed, digits_end}
+-- Each character is a digit, or one is not.
+use mathlib.Core.Path.{◌∙◌}
+use Rattle.std.proofs.Common.{rules, tests}
+use lib.Dec.{ltb}
+use Rattle.std.proofs.lemmas.Iterator.{YieldsList-from_slice}
+use Rattle.std.proofs.lemmas.Iterator.Search.{all_from_yields_List}
+use Rattle.hex_bytes.specs.Hex.{digit_value}
+use Rattle.hex_bytes.proofs.Digits.{digits_all}
 use Rattle.hex_bytes.proofs.all_digits.Goals as goal
-
-pub loop-i-init : goal.loop-i-init
-loop-i-init c = (omega arith, refl)
-
-pub returns-then-digit-gt15 : goal.returns-then-digit-gt15
-returns-then-digit-gt15 c =
-    let l = c.loop-i in
-    sym (l.invariant.1 ∙ digit_missed _ l.i (omega arith) (omega (arith, c.digit.ensures)))
-
-pub loop-i-preserved : goal.loop-i-preserved
-loop-i-preserved c =
-    let l = c.loop-i in
-    (omega arith, l.invariant.1 ∙ digit_passed _ l.i (omega arith) (omega (arith, c.digit.ensures)))
 
 pub returns : goal.returns
 returns c =
-    let l = c.loop-i in
-    sym (l.invariant.1 ∙ digits_end _ l.i (omega arith))
+    let text = c.args.text.now in
+    all_from_yields_List (λ d. ltb (digit_value d) 16) _ _ _ c.all.ensures.ran (YieldsList-from_slice text (cc)) (λ x b q k. search (rules, tests)) ∙ digits_all text

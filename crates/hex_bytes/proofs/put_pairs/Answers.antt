@@ -1,6 +1,5 @@
 use mathlib.Core.Path.{◌≡◌, refl}
 use native.Mathlib.Omega.{arith}
-use lib.ListN.{length-set}
 use Rattle.hex_bytes.specs.Hex.{pairs}
 use Rattle.hex_bytes.proofs.Digits.{pair_below}
 use Rattle.hex_bytes.proofs.Laws.{put_next}
@@ -8,7 +7,7 @@ use Rattle.hex_bytes.proofs.put_pairs.Goals as goal
 
 pub loop-i-init : goal.loop-i-init
 unfolding pairs
-loop-i-init c = (omega arith, refl, refl)
+loop-i-init c = refl
 
 pub overflow_mul-out : goal.overflow_mul-out
 overflow_mul-out c =
@@ -22,14 +21,11 @@ overflow_add-out c =
 
 pub loop-i-preserved : goal.loop-i-preserved
 loop-i-preserved c =
-    let l = c.loop-i in (
-      omega arith,
-      rw length-set l.invariant.1,
-      rw l.invariant.2 (put_next c.args.text.now c.args.out.now l.i _ (omega arith) (omega (arith, c.digit-high.ensures, c.digit-low.ensures))),
-    )
+    let l = c.loop-i in
+    rw l.invariant (put_next c.args.text.now c.args.out.now l.i _ (omega arith) (omega (arith, c.digit-high.ensures, c.digit-low.ensures)))
 
 pub returns : goal.returns
 returns c =
     let l = c.loop-i in
     let e : l.i ≡ c.args.count = omega arith in
-    rw e at l.invariant.2
+    rw e at l.invariant

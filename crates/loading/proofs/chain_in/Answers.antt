@@ -9,7 +9,7 @@ use Rattle.loading.proofs.chain_in.Goals as goal
 
 pub loop-j-init : goal.loop-j-init
 unfolding words_in
-loop-j-init c = (omega arith, sym (fill_nil 16))
+loop-j-init c = sym (fill_nil 16)
 
 pub number_in-requires : goal.number_in-requires
 number_in-requires c = (omega arith, omega arith)
@@ -24,10 +24,10 @@ pub loop-j-preserved : goal.loop-j-preserved
 loop-j-preserved c =
     let l = c.loop-j in
     let a = c.args in
-    (omega arith, word_stored a.form.now a.at l.j (omega (arith, c.requires.1)) l.invariant.1 c.number_in.ensures)
+    word_stored a.form.now a.at l.j (omega (arith, c.requires.1)) l.invariant c.number_in.ensures
 
 pub returns : goal.returns
 returns c =
     let l = c.loop-j in
     let e : l.j ≡ c.args.count = omega arith in
-    rw e at l.invariant.1
+    rw e at l.invariant

@@ -19,18 +19,15 @@ chain_in-chain-requires c =
     let f = c.family_in-family.result in
     (omega (arith, c.chain_place.ensures, chain_max f), omega (arith, c.chain_words.ensures, words_max f))
 
-pub rest_in-rest-requires : goal.rest_in-rest-requires
-rest_in-rest-requires c = c.block_bytes-size.ensures ∙ ap block_bytes c.family_in-family.ensures
-
 pub overflow_add-held_place : goal.overflow_add-held_place
 overflow_add-held_place c = omega (arith, c.held_place.ensures, held_max c.family_in-family.result)
 
 pub nonzero_div-result : goal.nonzero_div-result
-nonzero_div-result c = omega (arith, c.block_bytes-size.ensures, block_pos c.family_in-family.result)
+nonzero_div-result c = omega (arith, c.block_bytes.ensures, block_pos c.family_in-family.result)
 
 pub returns : goal.returns
 returns c =
-    state_made c.args.form.now c.family_in-family.ensures c.number_at-m.ensures c.covered_in-covered.ensures c.block_bytes-size.ensures c.rest_in-rest.ensures
-    c.salt_bytes.ensures c.part.ensures c.put_bytes.ensures
+    state_made c.args.form.now c.family_in-family.ensures c.number_at-m.ensures c.covered_in-covered.ensures c.block_bytes.ensures c.rest_in.ensures
+    c.salt_bytes.ensures c.part.ensures c.filled-salt.ensures
     c.chain_place.ensures c.chain_words.ensures c.chain_in-chain.ensures
-    c.held_place.ensures c.part-2.ensures c.put_bytes-2.ensures
+    c.held_place.ensures c.part-2.ensures c.filled-held.ensures

@@ -13,7 +13,7 @@ overflow_add-result c = omega (arith, c.held_place.ensures, held_max c.args.stat
 pub overflow_add-result-2 : goal.overflow_add-result-2
 overflow_add-result-2 c =
     let s = c.args.state in
-    omega (arith, c.held_place.ensures, held_max s.family, c.rest_of.ensures, mod-lt s.covered.0 (block_pos s.family), block_max s.family)
+    omega (arith, c.held_place.ensures, held_max s.family, c.held_bytes.ensures, mod-lt s.covered.0 (block_pos s.family), block_max s.family)
 
 pub returns : goal.returns
-returns c = rw (c.held_place.ensures, c.rest_of.ensures) (sym (form_length c.args.state c.requires))
+returns c = rw (c.held_place.ensures, c.held_bytes.ensures) (sym (form_length c.args.state c.requires))

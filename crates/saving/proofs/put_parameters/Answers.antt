@@ -5,4 +5,4 @@ use Rattle.saving.proofs.put_parameters.Goals as goal
 pub returns : goal.returns
 returns c =
     let a = c.args in
-    parameters_put a.out.now a.family a.m c.number.ensures c.put_number.ensures c.put_number-2.ensures c.put_number-3.ensures
+    parameters_put a.out.now a.family a.m c.number.ensures c.put_number.ensures c.put_number-2.ensures (rw c.from.ensures at c.put_number-3.ensures)

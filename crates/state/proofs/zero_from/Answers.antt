@@ -1,14 +1,19 @@
-use mathlib.Core.Path.{refl, ◌∙◌, sym}
-use Rattle.state.proofs.Zeros.{zero_more, zero_end}
+-- What is gathered of the bytes is zero where each of them is.
+use mathlib.Core.Path.{◌≡◌, refl, ap, ◌∙◌}
+use Rattle.std.proofs.Common.{rules}
+use lib.Bits.{bit_or}
+use lib.Dec.{eqb}
+use lib.ListN.{drop}
+use Rattle.std.specs.List.{fold}
+use Rattle.std.proofs.lemmas.Iterator.{YieldsList-from_slice}
+use Rattle.std.proofs.lemmas.Iterator.Consumers.{fold_from_yields_List}
+use Rattle.state.proofs.Zeros.{rest_is, gathered}
 use Rattle.state.proofs.zero_from.Goals as goal
 
-pub loop-i-init : goal.loop-i-init
-loop-i-init c = refl
-
-pub loop-i-preserved : goal.loop-i-preserved
-loop-i-preserved c =
-    let l = c.loop-i in
-    l.invariant ∙ zero_more _ l.i l.any c.loop-i-test.true
-
 pub returns : goal.returns
-returns c = sym (c.loop-i.invariant ∙ zero_end _ c.loop-i.i c.loop-i.any c.loop-i-test.false)
+returns c =
+    let rest = drop c.args.at c.args.s.now in
+    let cut : c.iter.result.rest.now ≡ rest = c.iter.ensures.rest ∙ rest_is c.args.s.now c.args.at refl c.min.ensures in
+    let e : c.fold.result ≡ fold bit_or 0 rest =
+    fold_from_yields_List _ bit_or _ _ c.fold.ensures.ran (YieldsList-from_slice rest cut) (λ a x b q k. search rules) in
+    ap (λ n. eqb n 0) e ∙ gathered 0 rest

@@ -1,17 +1,27 @@
--- The eight digits are those of the word, one for each division by 16.
+use mathlib.Core.Path.{◌≡◌, refl, sym, ◌∙◌}
+use mathlib.Core.List.{append-nil}
+use Prim.Native.Nat.{◌-◌}
+use lib.ListN.{length-set}
+use native.Mathlib.Omega.{arith}
 use Rattle.text.specs.Digits.{hex_in, upper_of}
+use Rattle.text.proofs.Storing.{word_step}
 use Rattle.text.proofs.word_digits.Goals as goal
 
+pub loop-i-init : goal.loop-i-init
+unfolding upper_of
+loop-i-init c = record { room = refl; filled = sym (append-nil _) }
+
+pub loop-i-preserved : goal.loop-i-preserved
+loop-i-preserved c =
+    let l = c.loop-i in
+    record {
+      room = length-set l.digits (l.i - 1) c.digit_of.result ∙ l.invariant.room;
+      filled = l.invariant.filled ∙ word_step _ l.i l.rest _ (omega (arith, c.loop-i-test.true)) (omega (arith, l.auto.i, l.invariant.room)) c.digit_of.ensures;
+    }
+
 pub returns : goal.returns
-unfolding upper_of hex_in
+unfolding hex_in
 returns c =
-    rw (
-      c.digit_of-8.ensures,
-      c.digit_of-7.ensures,
-      c.digit_of-6.ensures,
-      c.digit_of-5.ensures,
-      c.digit_of-4.ensures,
-      c.digit_of-3.ensures,
-      c.digit_of-2.ensures,
-      c.digit_of.ensures,
-    )
+    let l = c.loop-i in
+    let z : l.i ≡ 0 = omega (arith, c.loop-i-test.false) in
+    sym (rw z at l.invariant.filled)

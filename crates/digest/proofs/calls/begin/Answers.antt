@@ -1,21 +1,9 @@
--- The tests are the rule's, in its order, and each way hands back the state that the rule names.
-use native.Mathlib.Omega.{arith}
-use Rattle.family.proofs.Sizes.{salt_max}
-use Rattle.answers.proofs.Tests.{fell, held}
-use Rattle.digest.proofs.Tests.{salt_size}
-use Rattle.digest.proofs.Answers.{begin_length, begin_salt, begin_in, begun}
+-- What was made, or the refusal and the state that the rule names.
+use mathlib.Core.Path.{◌∙◌}
+use Rattle.answers.proofs.Handing.{handed_made}
+use Rattle.digest.specs.Calls.{begin_of}
 use Rattle.digest.proofs.calls.begin.Goals as goal
 
-pub returns-then-not-is_allowed : goal.returns-then-not-is_allowed
-returns-then-not-is_allowed c = begun _ _ (begin_length _ _ (fell c.is_allowed.ensures c.if-not-is_allowed.true)) c.zero_state.ensures
-
-pub returns-then-not-salt_fits : goal.returns-then-not-salt_fits
-returns-then-not-salt_fits c = begun _ _ (begin_salt _ _ (held c.is_allowed.ensures c.if-not-is_allowed.false) c.of.ensures (fell c.salt_fits.ensures c.if-not-salt_fits.true)) c.zero_state-then-not-salt_fits.ensures
-
-pub started-requires : goal.started-requires
-started-requires c =
-    let f = c.of.result in
-    omega (arith, salt_max f, salt_size f c.args.salt.now (held c.salt_fits.ensures c.if-not-salt_fits.false))
-
 pub returns : goal.returns
-returns c = begun _ _ (begin_in _ _ (held c.is_allowed.ensures c.if-not-is_allowed.false) c.of.ensures (held c.salt_fits.ensures c.if-not-salt_fits.false)) c.started.ensures
+unfolding begin_of
+returns c = c.of.ensures ∙ rw (c.begun.ensures, c.zero_state.ensures) (handed_made _ _ _)

@@ -5,7 +5,7 @@ use Rattle.expanded.proofs.Quarters.{Standing}
 use Rattle.expanded.proofs.cipher.large.Given as goal
 
 abbrev pub invariant-loop-i : goal.invariant-loop-i
-invariant-loop-i l = (l.i ≤ 448) × (l.i % 16 ≡ 0) × Standing l.w (quarters_at 0 l.initial.h) l.i l.h
+invariant-loop-i g l = (l.i ≤ 448) × (l.i % 16 ≡ 0) × Standing l.w (quarters_at 0 l.initial.h) l.i l.h
 
 abbrev pub decreases-loop-i : goal.decreases-loop-i
-decreases-loop-i l = 448 - l.i
+decreases-loop-i g l = 448 - l.i

@@ -4,7 +4,6 @@ use Prim.Native.Nat.{◌+◌, ◌*◌}
 use native.Mathlib.Omega.{arith}
 use mathlib.Core.List.{append-nil}
 use lib.ListN.{drop}
-use Rattle.family.proofs.Numbers.{numbers, block_first, run_inside}
 use Rattle.family.specs.Family.{block_words}
 use Rattle.family.specs.Family as table
 use Rattle.words.specs.Words.{times}
@@ -12,21 +11,15 @@ use Rattle.compress.specs.Expansion.{expand_of}
 use Rattle.compress.proofs.Growing.{runs_step, runs_all}
 use Rattle.expanded.proofs.expansion.expand.Goals as goal
 
-pub load-requires-2 : goal.load-requires-2
-load-requires-2 c = (omega (arith, c.block_words.ensures, c.requires.1, block_first c.args.family), omega (arith, c.block_words.ensures, c.requires.2))
-
-pub run-requires : goal.run-requires
-run-requires c = (c.requires.0, rw c.loop-r.invariant.1 (run_inside c.args.family c.loop-r.r (omega (arith, c.runs-runs.ensures))), rw c.loop-r.invariant.1 (numbers c.args.family).all)
-
 pub loop-r-preserved : goal.loop-r-preserved
-loop-r-preserved c = (
+loop-r-preserved g c = (
   omega arith,
   c.run.ensures.1 ∙ c.loop-r.invariant.1,
   runs_step c.args.family c.args.c _ _ c.loop-r.w _ c.loop-r.r c.loop-r.invariant.2 c.run.ensures.0,
 )
 
 pub returns : goal.returns
-returns c =
+returns g c =
     let salt = c.load.ensures in
     let k : c.loop-r.r ≡ table.runs c.args.family = omega (arith, c.runs-runs.ensures) in
     let n = c.block_words in
@@ -36,6 +29,6 @@ returns c =
 
 pub loop-r-init : goal.loop-r-init
 unfolding times
-loop-r-init c =
+loop-r-init g c =
     let one : block_words c.args.family * (0 + 1) ≡ block_words c.args.family = omega arith in
-    (search rules, c.load-2.auto.w ∙ c.requires.1, rw one)
+    (search rules, c.load-2.auto.w ∙ c.requires.0, rw one)

@@ -1,5 +1,5 @@
 use mathlib.Core.Path.{◌≡◌}
-use Prim.Native.Nat.{◌+◌, ◌-◌, ◌*◌, ◌≤◌}
+use Prim.Native.Nat.{◌+◌, ◌*◌, ◌≤◌}
 use lib.ListN.{length, take}
 use Rattle.family.specs.Family.{block_words}
 use Rattle.family.specs.Family as table
@@ -8,8 +8,5 @@ use Rattle.compress.specs.Expansion.{run_of}
 use Rattle.expanded.proofs.expansion.expand.Given as goal
 
 abbrev pub invariant-loop-r : goal.invariant-loop-r
-invariant-loop-r l = (l.r ≤ l.runs) × (length l.w ≡ table.expanded_words l.family)
+invariant-loop-r g l = (l.r ≤ l.runs) × (length l.w ≡ table.expanded_words l.family)
     × (take (block_words l.family * (l.r + 1)) l.w ≡ times l.r (run_of l.family l.c l.s) (take (block_words l.family) l.initial.w))
-
-abbrev pub decreases-loop-r : goal.decreases-loop-r
-decreases-loop-r l = l.runs - l.r

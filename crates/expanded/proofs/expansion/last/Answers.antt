@@ -1,6 +1,12 @@
+use mathlib.Core.Path.{◌≡◌}
 use native.Mathlib.Omega.{arith}
+use lib.ListN.{length, take}
+use lib.Seq.{take_all}
 use Rattle.compress.proofs.Growing.{last_is}
 use Rattle.expanded.proofs.expansion.last.Goals as goal
 
 pub returns : goal.returns
-returns c = let a = c.args in last_is a.w.now a.i (omega arith) (omega arith)
+returns c =
+    let w = c.args.w.now in
+    let whole : take (length w) w ≡ w = take_all _ _ (omega arith) in
+    rw whole at (last_is w (length w) (omega arith) (omega arith))

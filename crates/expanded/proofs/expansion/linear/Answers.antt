@@ -1,5 +1,5 @@
 use borrow.Author.Rules.{rules}
-use mathlib.Core.Path.{◌≡◌, refl}
+use mathlib.Core.Path.{refl}
 use native.Mathlib.Nat.{add-zero}
 use native.Mathlib.Omega.{arith}
 use lib.ListN.{length-set}
@@ -20,8 +20,3 @@ loop-k-preserved c =
       simp length-set at.invariant.1,
       linear_step a.n a.near at.w _ a.i at.k (omega arith) (omega arith) (omega arith) (omega arith) (omega arith) at.invariant.2,
     )
-
-pub returns : goal.returns
-returns c =
-    let e : c.loop-k.k ≡ c.args.n = omega arith in
-    (rw e at c.loop-k.invariant.2, c.loop-k.invariant.1)

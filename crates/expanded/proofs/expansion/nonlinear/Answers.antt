@@ -1,77 +1,36 @@
 use mathlib.Core.Path.{◌≡◌, refl, ◌∙◌}
-use Prim.Native.Nat.{◌+◌, ◌*◌, ◌/◌, ◌≤◌, ◌<◌}
-use native.Mathlib.Nat.{add-zero, mod-lt}
+use mathlib.Core.List.{◌++◌}
+use Prim.Native.Nat.{◌+◌, ◌-◌, ◌*◌, ◌%◌, ◌≤◌}
+use native.Mathlib.Nat.{add-zero}
 use native.Mathlib.Omega.{arith}
-use lib.ListN.{take}
+use lib.ListN.{length, take}
+use lib.Seq.{length-sets}
 use borrow.Author.Rules.{rules}
+use borrow.Rule.Slice.PartMut.{put_mid}
 use Rattle.family.specs.Family.{block_words}
 use Rattle.words.specs.Words.{times}
 use Rattle.compress.specs.Expansion.{places, nonlinear_run}
-use Rattle.compress.proofs.Growing.{nonlinear_step}
-use Rattle.family.proofs.Numbers.{numbers}
+use Rattle.compress.proofs.Fours.{four_part, part_put}
+use Rattle.compress.proofs.Growing.{put_four, nonlinear_step}
 use Rattle.expanded.proofs.expansion.nonlinear.Goals as goal
 
 pub loop-k-init : goal.loop-k-init
 unfolding nonlinear_run times
-loop-k-init c = (search rules, refl, rw add-zero)
-
-pub nonzero_rem-k : goal.nonzero_rem-k
-nonzero_rem-k c =
-    let quads : (0 < c.salt_quads-quads.result) × (c.salt_quads-quads.result ≤ 4) =
-    let n = numbers c.args.family in
-    (omega (arith, n.quad, c.salt_quads-quads.ensures), omega (arith, n.quads, c.salt_quads-quads.ensures)) in
-    omega (arith, quads.0)
-
-pub overflow_mul-k : goal.overflow_mul-k
-overflow_mul-k c =
-    let quads : (0 < c.salt_quads-quads.result) × (c.salt_quads-quads.result ≤ 4) =
-    let n = numbers c.args.family in
-    (omega (arith, n.quad, c.salt_quads-quads.ensures), omega (arith, n.quads, c.salt_quads-quads.ensures)) in
-    let q = quads in
-    record { fits = omega (arith, q.1, mod-lt c.loop-k.k q.0) }
-
-pub quad-salt4-requires : goal.quad-salt4-requires
-quad-salt4-requires c =
-    let quads : (0 < c.salt_quads-quads.result) × (c.salt_quads-quads.result ≤ 4) =
-    let n = numbers c.args.family in
-    (omega (arith, n.quad, c.salt_quads-quads.ensures), omega (arith, n.quads, c.salt_quads-quads.ensures)) in
-    let q = quads in
-    omega (arith, q.1, mod-lt c.loop-k.k q.0)
-
-pub overflow_mul-k-in-loop-k : goal.overflow_mul-k-in-loop-k
-overflow_mul-k-in-loop-k c =
-    let inside : 4 * c.loop-k.k + 4 ≤ block_words c.args.family =
-    let n = numbers c.args.family in
-    omega (arith, n.groups, c.block_words-groups.ensures) in
-    omega (arith, inside)
-
-pub overflow_add-i : goal.overflow_add-i
-overflow_add-i c =
-    let inside : 4 * c.loop-k.k + 4 ≤ block_words c.args.family =
-    let n = numbers c.args.family in
-    omega (arith, n.groups, c.block_words-groups.ensures) in
-    omega (arith, inside)
-
-pub add_group-requires : goal.add_group-requires
-add_group-requires c =
-    let inside : 4 * c.loop-k.k + 4 ≤ block_words c.args.family =
-    let n = numbers c.args.family in
-    omega (arith, n.groups, c.block_words-groups.ensures) in
-    (c.requires.0, omega arith, omega (arith, inside, c.loop-k.invariant.1), omega arith)
-
-pub returns : goal.returns
-returns c =
-    let a = c.args in
-    let n = numbers a.family in
-    let e : c.loop-k.k ≡ block_words a.family / 4 = omega (arith, c.block_words-groups.ensures) in
-    let s = c.salt_quads-quads.ensures in
-    (rw (e, n.groups, s) at c.loop-k.invariant.2, c.loop-k.invariant.1)
+loop-k-init g c = (search rules, refl, rw add-zero)
 
 pub loop-k-preserved : goal.loop-k-preserved
-loop-k-preserved c =
-    let a = c.args in (
+loop-k-preserved g c =
+    let a = c.args in
+    let w = c.loop-k.w in
+    let at = a.i + 4 * c.loop-k.k in
+    let x = c.group-x.result in
+    let room : at + 4 ≤ length w = omega arith in
+    let stored = part_put w x c.put.new.w at (search rules) room c.put.ensures in
+    let put : take (at + 4) (put_mid at (at + 4 - at) w c.put.new.w) ≡ take at w ++ x = rw stored (put_four w x at (search rules) room) in
+    let whole : length (put_mid at (at + 4 - at) w c.put.new.w) ≡ length w = rw stored (length-sets w at x) in (
       omega arith,
-      c.add_group.ensures.1 ∙ c.loop-k.invariant.1,
-      nonlinear_step (block_words a.family) c.salt_quads-quads.result (places a.family a.c) a.salt.now c.loop-k.w c.add_group.new.w
-          (take a.i a.w.now) a.i c.loop-k.k c.loop-k.invariant.2 (rw (← c.quad-salt4.ensures) c.add_group.ensures.0),
+      whole ∙ c.loop-k.invariant.1,
+      nonlinear_step (block_words a.family) c.salt_quads-quads.result (places a.family a.c) a.salt.now w (put_mid at (at + 4 - at) w c.put.new.w)
+          (take a.i a.w.now) a.i c.loop-k.k c.loop-k.invariant.2
+          (rw (← c.quad-salt4.ensures ∙ four_part a.salt.now (4 * (c.loop-k.k % c.salt_quads-quads.result)), ← c.group-x.ensures) put),
     )

@@ -1,34 +1,9 @@
--- The tests are the rule's, in its order, and the keyed state is made from the padded key.
-use mathlib.Core.Path.{◌≡◌}
-use mathlib.Core.Bool.{true}
-use native.Mathlib.Omega.{arith}
-use Rattle.answers.proofs.Tests.{fell, held}
-use Rattle.keyed_state.specs.Keyed.{tag_length}
-use Rattle.keyed.proofs.Tags.{opened_keyed}
-use Rattle.keyed.proofs.Answers.{tag_allowed, begin_length, begin_long, begin_in, begun}
+-- What was made, or the refusal and the keyed state that the rule names.
+use mathlib.Core.Path.{◌∙◌}
+use Rattle.answers.proofs.Handing.{handed_made}
+use Rattle.keyed.specs.Calls.{key_begin_of}
 use Rattle.keyed.proofs.calls.begin.Goals as goal
 
-pub returns-then-not-is_tag_length : goal.returns-then-not-is_tag_length
-returns-then-not-is_tag_length c = begun _ _ (begin_length _ _ (fell c.is_tag_length.ensures c.if-not-is_tag_length.true)) c.zero_keyed.ensures
-
-pub returns-then-key-gt-KEY_LIMIT : goal.returns-then-key-gt-KEY_LIMIT
-returns-then-key-gt-KEY_LIMIT c =
-    let ok : tag_length c.args.m ≡ true = held c.is_tag_length.ensures c.if-not-is_tag_length.false in
-    begun _ _ (begin_long _ _ ok c.if-key-gt-KEY_LIMIT.true) c.zero_keyed-then-key-gt-KEY_LIMIT.ensures
-
-pub padded-padded-requires : goal.padded-padded-requires
-padded-padded-requires c =
-    let ok : tag_length c.args.m ≡ true = held c.is_tag_length.ensures c.if-not-is_tag_length.false in
-    (tag_allowed _ ok, omega (arith, c.if-key-gt-KEY_LIMIT.false))
-
-pub opened-inner-requires : goal.opened-inner-requires
-opened-inner-requires c =
-    let ok : tag_length c.args.m ≡ true = held c.is_tag_length.ensures c.if-not-is_tag_length.false in
-    tag_allowed _ ok
-
 pub returns : goal.returns
-returns c =
-    let ok : tag_length c.args.m ≡ true = held c.is_tag_length.ensures c.if-not-is_tag_length.false in
-    let a = c.args in
-    begun _ _ (begin_in _ _ ok c.if-key-gt-KEY_LIMIT.false)
-    (opened_keyed a.m a.key.now (tag_allowed _ ok) c.padded-padded.ensures c.opened-inner.ensures)
+unfolding key_begin_of
+returns c = c.of.ensures ∙ rw (c.begun.ensures, c.zero_keyed.ensures) (handed_made _ _ _)

@@ -1,9 +1,0 @@
--- Each turn adds a thousand letters.
-use Rattle.std.proofs.Common.{◌-◌, ◌≤◌}
-use Rattle.printed_values.proofs.messages.add_million.Given as goal
-
-abbrev pub invariant-loop-i : goal.invariant-loop-i
-invariant-loop-i l = l.i ≤ 1000
-
-abbrev pub decreases-loop-i : goal.decreases-loop-i
-decreases-loop-i l = 1000 - l.i

@@ -1,9 +1,0 @@
--- Each turn sets a byte.
-use Rattle.std.proofs.Common.{◌-◌, ◌≤◌}
-use Rattle.printed_values.proofs.states.salt_of.Given as goal
-
-abbrev pub invariant-loop-i : goal.invariant-loop-i
-invariant-loop-i l = l.i ≤ l.size
-
-abbrev pub decreases-loop-i : goal.decreases-loop-i
-decreases-loop-i l = l.size - l.i
