@@ -83,17 +83,18 @@ pub(crate) fn read(rt: &impl Env, count: usize, option: &[u8], flag: &[u8]) -> O
     Some(asked)
 }
 
-// The bytes that an argument spells in hex, at the start of `out`: none where there is no such argument. For a word that is too long there is no room either. (See `tag_bits`
-// in mac for why each program has its own.)
-pub(crate) fn hex_word(
-    rt: &impl Env,
-    argument: Option<usize>,
-    out: &mut [u8],
-) -> Result<usize, HexError> {
+// Puts the bytes that an argument spells in hex to the start of `out` and says how many there are: 0 where there is no such argument, and all of `out`, unwritten, where they
+// have no room in it. No number where it spells no bytes. (See `tag_bits` in mac for why each program has its own.)
+pub(crate) fn hex_word(rt: &impl Env, argument: Option<usize>, out: &mut [u8]) -> Option<usize> {
     let Some(i) = argument else {
-        return Ok(0);
+        return Some(0);
     };
     let mut text = [0u8; command_line::WORD];
-    let size = rt.arg(i, &mut text).map_err(|_| HexError::NoRoom)?;
-    hex_bytes::decode(&text[..size], out)
+    let Ok(size) = rt.arg(i, &mut text) else {
+        return Some(out.len());
+    };
+    match hex_bytes::decode(&text[..size], out) {
+        Err(HexError::NoRoom) => Some(out.len()),
+        decoded => decoded.ok(),
+    }
 }

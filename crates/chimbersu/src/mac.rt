@@ -1,7 +1,6 @@
 // chimbersu mac KEYFILE [M] [--check TAG-HEX]: the tag of standard input under a key, or whether a tag is the right one.
 use crate::asked::Asked;
 use crate::{asked, files, saying};
-use hex_bytes::HexError;
 use keyed_state::Keyed;
 use std::io;
 use std::rt::Env;
@@ -86,12 +85,8 @@ pub(crate) fn run(rt: &HostRuntime) -> io::Result<()> {
         return saying::complain(rt, "the tag length is not a decimal number up to 65535");
     };
     let mut tag = [0u8; TAG];
-    let size = match asked::hex_word(rt, option, &mut tag) {
-        Ok(size) => size,
-        Err(HexError::NoRoom) => TAG,
-        Err(HexError::NotHex) => {
-            return saying::complain(rt, "the tag is not hex digits, two a byte");
-        }
+    let Some(size) = asked::hex_word(rt, option, &mut tag) else {
+        return saying::complain(rt, "the tag is not hex digits, two a byte");
     };
     begin(rt, key, m, option.map(|_| text::first(&tag, size)))
 }

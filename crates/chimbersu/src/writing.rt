@@ -1,7 +1,6 @@
 // chimbersu write REGISTERS EVENTS [--salt HEX] [--claims]: a boot log from its parts.
 use crate::asked::Asked;
 use crate::{asked, files, saying};
-use hex_bytes::HexError;
 use std::io;
 
 // One byte more than the most registers and events have: what is longer is refused by it.
@@ -45,12 +44,8 @@ pub(crate) fn run(rt: &HostRuntime) -> io::Result<()> {
         return saying::help_write(rt);
     };
     let mut salt = [0u8; SALT];
-    let size = match asked::hex_word(rt, option, &mut salt) {
-        Ok(size) => size,
-        Err(HexError::NoRoom) => SALT,
-        Err(HexError::NotHex) => {
-            return saying::complain(rt, "the salt is not hex digits, two a byte");
-        }
+    let Some(size) = asked::hex_word(rt, option, &mut salt) else {
+        return saying::complain(rt, "the salt is not hex digits, two a byte");
     };
     write(rt, (registers, events), text::first(&salt, size), flag)
 }

@@ -2,7 +2,8 @@
 use crate::messages::Message;
 use std::{fmt, str};
 
-// The first `count` words, each as eight upper-case digits, which `text::put_word` spells: its digits are compared with the source's so.
+// The first `count` words, each as eight upper-case digits, which `text::put_word` spells: its digits are compared with the source's so. A slice in their place would want it
+// proved that so many are there, in four functions; `take` asks nothing.
 #[derive(Clone, Copy)]
 pub(crate) struct Words {
     pub(crate) words: [u32; 16],

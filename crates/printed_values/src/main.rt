@@ -6,32 +6,22 @@ mod lines;
 mod messages;
 mod states;
 
-use family::{Family, LargeFamily, SmallFamily};
+use family::Family;
 use lines::{Label, Words};
 use messages::Message;
 use std::io;
 
-// The starting values of a family's digest lengths.
-fn start_lines(rt: &impl Print, family: Family, lengths: &[u16], count: usize) -> io::Result<()> {
+// A family's master value, by the family's longest length, and the starting values of its lengths.
+fn family_lines(rt: &impl Print, longest: u16, lengths: &[u16]) -> io::Result<()> {
+    let family = Family::of(longest);
+    let count = family.chain_words();
+    let words = starting::master_value(family);
+    println!(rt; "MIV_{longest}{}", Words { words, count })?;
     for m in lengths {
         let words = starting::starting_value(form::TABLES, family, *m);
         println!(rt; "IV_{m}{}", Words { words, count })?;
     }
     Ok(())
-}
-
-fn small_lines(rt: &impl Print) -> io::Result<()> {
-    let words = starting::master_value(Family::Small);
-    let count = SmallFamily::CHAIN_WORDS;
-    println!(rt; "MIV_256{}", Words { words, count })?;
-    start_lines(rt, Family::Small, &[160, 224, 256], count)
-}
-
-fn large_lines(rt: &impl Print) -> io::Result<()> {
-    let words = starting::master_value(Family::Large);
-    let count = LargeFamily::CHAIN_WORDS;
-    println!(rt; "MIV_512{}", Words { words, count })?;
-    start_lines(rt, Family::Large, &[384, 512], count)
 }
 
 // Whether they are salted is a value of the label, which the start of the digest goes by too.
@@ -70,8 +60,8 @@ fn appendix_lines(rt: &impl Print) -> io::Result<()> {
 }
 
 fn main(rt: HostRuntime) -> io::Result<()> {
-    small_lines(&rt)?;
-    large_lines(&rt)?;
+    family_lines(&rt, 256, &[160, 224, 256])?;
+    family_lines(&rt, 512, &[384, 512])?;
     appendix_lines(&rt)?;
     for m in [224, 256] {
         rule_line(&rt, m, false)?;
