@@ -206,15 +206,17 @@ for main in crates/*/src/main.rt; do
     "$objdump" -d --no-show-raw-insn "crates/$program/out/$program" >"$made/functions"
     case $program in
         first_stage)
+            lacks expanded::by_tables
             lacks expanded::run_by_tables
+            lacks expanded::run_and_block_by_tables
             "$made/stack" main words::aes_round "$(expected stack)" <"$made/functions"
             ;;
         second_opinion)
-            needs expanded::run_by_tables
+            needs expanded::by_tables
             needs compress::cipher::small
             ;;
         *)
-            needs expanded::run_by_tables
+            needs expanded::by_tables
             lacks words::aes_round
             ;;
     esac

@@ -6,5 +6,5 @@ mod refusal;
 mod written;
 
 pub use handed::Handed;
-pub use refusal::{Refusal, also, number};
-pub use written::length;
+pub use refusal::{Refusal, also, answer_number, number};
+pub use written::{length, written_number};

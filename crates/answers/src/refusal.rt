@@ -1,6 +1,6 @@
 // Every refusal of the project, and the number of what a call answers.
 ghost use Rattle.std.specs.Prelude.{◌≡◌};
-ghost use Rattle.answers.specs.Refusal.{refusal_number, number_of, first_of};
+ghost use Rattle.answers.specs.Refusal.{refusal_number, number_of, answer_number, first_of};
 
 #[derive(Clone, Copy, Debug, PartialEq, Eq)]
 pub enum Refusal {
@@ -48,6 +48,13 @@ pub fn number<T: Drop>(answer: Result<T, Refusal>) -> u8
         Ok(_) => 0,
         Err(refusal) => refusal.number(),
     }
+}
+
+// The same of an answer with no value. Each kind of answer has such a call, since each has a definition of its number, which is its contract.
+pub fn answer_number(answer: Result<(), Refusal>) -> u8
+    ensures { result ≡ answer_number answer }
+{
+    number(answer)
 }
 
 // The first refusal of two answers.

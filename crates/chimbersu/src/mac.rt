@@ -15,21 +15,26 @@ const TAG: usize = 65;
 // The tag is taken by `text::first`, as key and tag are below: that so many bytes are in the buffer stands in no clause of the calls that say how many there are.
 fn finish(rt: &HostRuntime, keyed: Keyed) -> io::Result<()> {
     let mut tag = [0u8; 64];
-    match keyed::finish(form::TABLES, keyed, &mut tag).answer {
-        Ok(covered) => {
+    let tagged = keyed::finish(form::TABLES, keyed, &mut tag).answer;
+    match tagged {
+        Ok(_) => {
             let inner = keyed.inner;
             let spelled = Hex(text::first(&tag, usize::from(inner.m) / 8));
-            saying::printed(rt, println!(rt; "{spelled} {}", covered.0))
+            saying::printed(
+                rt,
+                println!(rt; "{spelled} {}", tag_answers::covered(tagged)),
+            )
         }
-        Err(refusal) => saying::refuse(rt, refusal),
+        Err(_) => saying::refuse(rt, tag_answers::number(tagged)),
     }
 }
 
 fn check(rt: &HostRuntime, keyed: Keyed, tag: &[u8]) -> io::Result<()> {
-    match keyed::check(form::TABLES, keyed, tag).answer {
-        Ok(true) => saying::printed(rt, println!(rt; "yes")),
-        Ok(false) => saying::printed(rt, println!(rt; "no")),
-        Err(refusal) => saying::refuse(rt, refusal),
+    let check = keyed::check(form::TABLES, keyed, tag).answer;
+    match check {
+        Ok(_) if tag_answers::is_yes(check) => saying::printed(rt, println!(rt; "yes")),
+        Ok(_) => saying::printed(rt, println!(rt; "no")),
+        Err(_) => saying::refuse(rt, tag_answers::check_number(check)),
     }
 }
 
@@ -41,7 +46,7 @@ fn tag_input(rt: &HostRuntime, keyed: Keyed, given: Option<&[u8]>) -> io::Result
             Some(tag) => check(rt, reached, tag),
             None => finish(rt, reached),
         },
-        Err(Stop::Refused(refusal)) => saying::refuse(rt, refusal),
+        Err(Stop::Refused(refusal)) => saying::refuse(rt, refusal.number()),
         Err(Stop::Failed) => saying::complain(rt, "standard input cannot be read"),
     }
 }
@@ -54,7 +59,7 @@ fn begin(rt: &HostRuntime, name: usize, m: u16, given: Option<&[u8]>) -> io::Res
     let begun = keyed::begin(form::TABLES, m, text::first(&key, size));
     match begun.answer {
         Ok(()) => tag_input(rt, begun.state, given),
-        Err(refusal) => saying::refuse(rt, refusal),
+        Err(refusal) => saying::refuse(rt, refusal.number()),
     }
 }
 

@@ -1,5 +1,4 @@
 // What is said on standard error, and what goes to standard output.
-use answers::Refusal;
 use std::io;
 
 // For whoever gave no words, or an unknown command.
@@ -32,8 +31,8 @@ pub(crate) fn complain(rt: &HostRuntime, message: &str) -> io::Result<()> {
     eprintln!(rt; "chimbersu: {message}")
 }
 
-pub(crate) fn refuse(rt: &HostRuntime, refusal: Refusal) -> io::Result<()> {
-    streaming::print_refusal(&rt.stderr(), refusal.number())
+pub(crate) fn refuse(rt: &HostRuntime, number: u8) -> io::Result<()> {
+    streaming::print_refusal(&rt.stderr(), number)
 }
 
 // Where standard output could not be written, that is said.

@@ -24,9 +24,13 @@ fn write(rt: &HostRuntime, names: (usize, usize), salt: &[u8], claims: bool) -> 
     let registers = text::first(&registers, r);
     let events = text::first(&events, n);
     let mut log = [0u8; layout::LONGEST];
-    match logger::write(salt, registers, events, claims, &mut log) {
-        Ok(size) => saying::printed(rt, rt.write_all(text::first(&log, size))),
-        Err(refusal) => saying::refuse(rt, refusal),
+    let written = logger::write(salt, registers, events, claims, &mut log);
+    match written {
+        Ok(_) => saying::printed(
+            rt,
+            rt.write_all(text::first(&log, answers::length(written))),
+        ),
+        Err(_) => saying::refuse(rt, answers::written_number(written)),
     }
 }
 

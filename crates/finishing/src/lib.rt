@@ -47,7 +47,8 @@ fn over(
 {
     if form {
         let first = Counter::of((8 * family.block_bytes()) as u64);
-        expanded::run_by_tables(family, chain, run, first, salt);
+        expanded::run_and_block_by_tables(family, chain, run, first, block, counter, salt);
+        return;
     }
     chaining::block(form, family, chain, block, counter, salt);
 }

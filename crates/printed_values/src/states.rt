@@ -1,14 +1,18 @@
 // How a digest starts and ends: by the rule, and as the appendix was made.
+ghost use Rattle.std.specs.Prelude.{◌≤◌};
+
 use crate::messages::Message;
 use bits::LastBits;
 use counter::Counter;
-use family::{Family, SmallFamily};
+use family::{Family, LargeFamily, SmallFamily};
 use reports::Length;
 use state::State;
 
 // A digest's words: the lengths that the appendix has are whole words.
-pub(crate) fn word_count(m: u16) -> usize {
-    usize::from(m / 32)
+pub(crate) fn word_count(m: u16) -> usize
+    ensures { result ≤ 16 }
+{
+    usize::from(m / 32).min(LargeFamily::CHAIN_WORDS)
 }
 
 fn salt_byte(m: u16) -> u8 {

@@ -14,5 +14,5 @@ pub fn print_check(rt: &impl Print, file: &mut impl Read) -> io::Result<()> {
     let (size, _) = command_line::read_full(file, &mut log);
     let mut lines = [0u8; printout::ROOM];
     let printed = printout::print(&log[..size], &mut lines);
-    rt.write_all(text::first(&lines, printed.unwrap_or(0)))
+    rt.write_all(text::first(&lines, answers::length(printed)))
 }

@@ -4,13 +4,11 @@ use mathlib.Core.List.{List, [], ◌++◌}
 use Prim.Native.Nat.{ℕ, suc, ◌+◌, ◌≤◌}
 use Rattle.std.proofs.Common.{append-nil}
 use native.Mathlib.Omega.{arith}
-use lib.ListN.{length, take, drop}
-use lib.Seq.{take_all, sets-eq, take_at}
-use borrow.Author.Tests.{le-leb}
+use lib.ListN.{length, take}
+use lib.Seq.{take_all}
 use native.Mathlib.Decide.{dec_lt}
 use Rattle.std.proofs.lemmas.List.{take-append-le, length-take, length-take-le}
 use Rattle.std.proofs.Math.Seq.{take-append-add}
-use Rattle.text.specs.Place.{placed, place_after}
 use Rattle.records.specs.Records.{joined}
 use Rattle.printout.specs.Page.{kept}
 use Rattle.printout.specs.Printout.{register_line, register_lines}
@@ -38,13 +36,6 @@ module _ (page xs : List ℕ) (room : ℕ) (h : room + length page ≡ 2048) whe
   pub fitted : page ++ take room xs ≡ kept (page ++ xs)
   unfolding kept
   fitted = let e : length page + room ≡ 2048 = omega arith in rw (← e, take-append-add page xs room)
-
--- the digits of a number, put in a buffer of their own
-pub digits_there : (out xs : List ℕ) → length xs ≤ length out → take (place_after (length out) 0 xs) (placed out 0 xs) ≡ xs
-unfolding place_after placed
-digits_there out xs h =
-    let fits : 0 + length xs ≤ length out = omega (arith, h) in
-    rw (le-leb (0 + length xs) (length out) fits, sets-eq xs out 0 fits) (take_at xs (drop (0 + length xs) out) (0 + length xs) (omega arith))
 
 -- the lines of no register, and those of the registers before with one more
 module _ (records : List ℕ) where

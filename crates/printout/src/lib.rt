@@ -1,10 +1,11 @@
 // The text of one check: what the programs print.
 #![tactic(auto, using(crate::proofs::Pages::kept_more, std::proofs::Common::append_assoc), unfolding(crate::specs::Printout::spaced, crate::specs::Printout::verdict_text, crate::specs::Printout::register_line, crate::specs::Printout::place_text, crate::specs::Printout::refusal_line, crate::specs::Printout::text_of))]
 
-ghost use Rattle.std.specs.Prelude.{◌≡◌, ◌++◌, length, Ok};
+ghost use Rattle.std.specs.Prelude.{◌≡◌, ◌++◌, length, replicate, Ok};
 ghost use Rattle.text.specs.Digits.{decimal_of, hex_of};
 ghost use Rattle.text.specs.Place.{placed};
 ghost use Rattle.records.specs.Records.{value_at};
+ghost use Rattle.bootlog.specs.Check.{check_of, check_buffer};
 ghost use Rattle.printout.specs.Page.{kept};
 ghost use Rattle.printout.specs.Printout.{verdict_text, register_line, spaced, place_text, refusal_line, text_of, printout_of, print_of};
 
@@ -28,7 +29,7 @@ fn put(page: &mut Page, bytes: &[u8])
 }
 
 // The digits stand in a buffer of their own, since `text` puts them into a lent one. One function for this and `value` would take a size and a closure, and be no plainer.
-#[tactic(auto, using(crate::proofs::Lengths::decimal_short, crate::proofs::Pages::digits_there))]
+#[tactic(auto, using(crate::proofs::Lengths::decimal_short, text::proofs::Storing::digits_there))]
 fn number(page: &mut Page, n: usize)
     ensures { page.new.items ≡ kept (page.old.items ++ decimal_of n) }
 {
@@ -59,7 +60,7 @@ fn verdict(page: &mut Page, found: Verdict)
 }
 
 // The value of a register, two digits a byte.
-#[tactic(auto, using(crate::proofs::Lengths::value_short, crate::proofs::Pages::digits_there))]
+#[tactic(auto, using(crate::proofs::Lengths::value_short, text::proofs::Storing::digits_there))]
 fn value(page: &mut Page, records: &[u8], register: usize)
     ensures { page.new.items ≡ kept (page.old.items ++ hex_of (value_at records.now register)) }
 {
@@ -115,33 +116,32 @@ fn accepted(page: &mut Page, records: &[u8], found: Findings)
     }
 }
 
-fn compose(records: &[u8], checked: Result<Findings, Refused>) -> Page
-    ensures { result.items ≡ kept (text_of checked records.now) }
+fn compose(page: &mut Page, records: &[u8], checked: Result<Findings, Refused>)
+    ensures { page.new.items ≡ kept (page.old.items ++ text_of checked records.now) }
 {
-    let mut page = Page::new();
     match checked {
-        Ok(found) => accepted(&mut page, records, found),
-        Err(refused) => refusal_line(&mut page, refused),
+        Ok(found) => accepted(page, records, found),
+        Err(refused) => refusal_line(page, refused),
     }
-    page
 }
 
-#[tactic(auto, using(crate::proofs::Bounds::printed))]
-fn checked_page(log: &[u8]) -> Page
-    ensures { result.items ≡ printout_of log.now }
+// The page is lent, and not handed back: each function that handed it back would zero one of its own and copy it.
+fn put_check(page: &mut Page, log: &[u8])
+    ensures { page.new.items ≡ kept (page.old.items ++ text_of (check_of log.now 816) (check_buffer log.now (replicate 816 0))) }
 {
     let mut records = [0u8; bootlog::ROOM];
     let checked = bootlog::check(log, &mut records);
-    compose(&records, checked)
+    compose(page, &records, checked);
 }
 
 // Checks a log and puts the check's text at the buffer's front: all of it, or nothing where it does not fit.
-#[tactic(auto, unfolding(crate::specs::Printout::print_of, text::specs::Place::placed))]
+#[tactic(auto, using(crate::proofs::Bounds::printed), unfolding(crate::specs::Printout::print_of, text::specs::Place::placed))]
 pub fn print(log: &[u8], out: &mut [u8]) -> Result<usize, Refusal>
     ensures result { result ≡ print_of log.now (length out.old) }
     ensures buffer { out.new ≡ placed out.old 0 (printout_of log.now) }
 {
-    let page = checked_page(log);
+    let mut page = Page::new();
+    put_check(&mut page, log);
     let whole = page.as_slice();
     if out.len() < whole.len() {
         return Err(Refusal::BufferShort);

@@ -2,7 +2,7 @@
 #![tactic(auto)]
 
 ghost use Rattle.std.specs.Prelude.{◌≡◌};
-ghost use Rattle.reports.specs.Report.{report_covered, report_bits, report_blocks};
+ghost use Rattle.reports.specs.Report.{report_number, report_covered, report_bits, report_blocks};
 
 use answers::Refusal;
 
@@ -16,6 +16,13 @@ pub struct Coverage {
     pub covered: Length,
     pub bits: u8,
     pub blocks: u64,
+}
+
+// 0 where the call is accepted.
+pub fn number(report: Result<Coverage, Refusal>) -> u8
+    ensures { result ≡ report_number report }
+{
+    answers::number(report)
 }
 
 // Whole bytes covered: 0 on a refusal.

@@ -1,5 +1,5 @@
 // The calls on saved forms.
-use crate::calls::Room;
+use crate::calls::{Room, say};
 use crate::line_words::Line;
 use crate::show::{Bytes, Shown};
 use state::State;
@@ -13,7 +13,11 @@ pub(crate) fn save(
 ) -> Option<io::Result<()>> {
     let lent = line.bytes(1, &mut room.lent)?;
     let saved = saving::save(state, lent);
-    Some(println!(rt; "save {} {}", Shown(saved.answer), Bytes(lent)))
+    Some(say(
+        rt,
+        format_args!("save {} {}", Shown(saved.answer), Bytes(lent)),
+        &mut room.spelled,
+    ))
 }
 
 pub(crate) fn load(
@@ -25,5 +29,9 @@ pub(crate) fn load(
     let form = line.bytes(1, &mut room.data)?;
     let loaded = loading::load(form);
     *state = loaded.state;
-    Some(println!(rt; "load {}", Shown(loaded)))
+    Some(say(
+        rt,
+        format_args!("load {}", Shown(loaded)),
+        &mut room.spelled,
+    ))
 }

@@ -1,4 +1,5 @@
 // A state written out in a line.
+use crate::calls::{Room, say};
 use crate::line_words::Line;
 use crate::show::Shown;
 use reports::Length;
@@ -19,7 +20,16 @@ pub(crate) fn read(line: Line<'_>) -> Option<State> {
 }
 
 // The line's state becomes the current one.
-pub(crate) fn given(rt: &impl Print, line: Line<'_>, state: &mut State) -> Option<io::Result<()>> {
+pub(crate) fn given(
+    rt: &impl Print,
+    line: Line<'_>,
+    state: &mut State,
+    room: &mut Room,
+) -> Option<io::Result<()>> {
     *state = read(line)?;
-    Some(println!(rt; "state {}", Shown(*state)))
+    Some(say(
+        rt,
+        format_args!("state {}", Shown(*state)),
+        &mut room.spelled,
+    ))
 }

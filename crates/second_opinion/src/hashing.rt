@@ -1,5 +1,5 @@
 // The calls of the digest.
-use crate::calls::Room;
+use crate::calls::{Room, say};
 use crate::line_words::Line;
 use crate::show::{Bytes, Shown};
 use state::State;
@@ -26,7 +26,11 @@ pub(crate) fn begin(
     let salt = line.bytes(2, &mut room.salt)?;
     let begun = digest::begin(form_for(usize::from(m)), m, salt);
     *state = begun.state;
-    Some(println!(rt; "begin {}", Shown(begun)))
+    Some(say(
+        rt,
+        format_args!("begin {}", Shown(begun)),
+        &mut room.spelled,
+    ))
 }
 
 // To the digest's state or the keyed one.
@@ -43,7 +47,11 @@ where
     let bytes = line.bytes(1, &mut room.data)?;
     let added = state.add(form_for(bytes.len()), bytes);
     *state = added.state;
-    Some(println!(rt; "{name} {}", Shown(added)))
+    Some(say(
+        rt,
+        format_args!("{name} {}", Shown(added)),
+        &mut room.spelled,
+    ))
 }
 
 // The current state stays as it is, and what is handed back is shown.
@@ -56,7 +64,11 @@ pub(crate) fn finish(
     let last = line.last_bits(1, 2)?;
     let lent = line.bytes(3, &mut room.lent)?;
     let finished = digest::finish(form_for(lent.len()), state, last, lent);
-    Some(println!(rt; "finish {} {}", Shown(finished), Bytes(lent)))
+    Some(say(
+        rt,
+        format_args!("finish {} {}", Shown(finished), Bytes(lent)),
+        &mut room.spelled,
+    ))
 }
 
 pub(crate) fn one_shot(rt: &impl Print, line: Line<'_>, room: &mut Room) -> Option<io::Result<()>> {
@@ -66,5 +78,9 @@ pub(crate) fn one_shot(rt: &impl Print, line: Line<'_>, room: &mut Room) -> Opti
     let last = line.last_bits(4, 5)?;
     let lent = line.bytes(6, &mut room.lent)?;
     let report = digest::one_shot(m, salt, bytes, last, lent);
-    Some(println!(rt; "oneshot {} {}", Shown(report), Bytes(lent)))
+    Some(say(
+        rt,
+        format_args!("oneshot {} {}", Shown(report), Bytes(lent)),
+        &mut room.spelled,
+    ))
 }

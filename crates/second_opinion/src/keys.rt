@@ -1,6 +1,6 @@
 // The calls of keyed digests; add is one with the digest's. Begin is like the digest's but for the call, the room and the name: `Running` has no begin, and a trait that
 // has one, with its two impls, is longer than this.
-use crate::calls::Room;
+use crate::calls::{Room, say};
 use crate::given;
 use crate::hashing::form_for;
 use crate::line_words::Line;
@@ -18,16 +18,29 @@ pub(crate) fn begin(
     let key = line.bytes(2, &mut room.data)?;
     let begun = keyed::begin(form_for(usize::from(m)), m, key);
     *keyed = begun.state;
-    Some(println!(rt; "keybegin {}", Shown(begun)))
+    Some(say(
+        rt,
+        format_args!("keybegin {}", Shown(begun)),
+        &mut room.spelled,
+    ))
 }
 
 // The keyed state that the line writes out, consistent or not, becomes the current one.
-pub(crate) fn given(rt: &impl Print, line: Line<'_>, keyed: &mut Keyed) -> Option<io::Result<()>> {
+pub(crate) fn given(
+    rt: &impl Print,
+    line: Line<'_>,
+    keyed: &mut Keyed,
+    room: &mut Room,
+) -> Option<io::Result<()>> {
     *keyed = Keyed {
         inner: given::read(line)?,
         key: line.array(8)?,
     };
-    Some(println!(rt; "keystate {}", Shown(*keyed)))
+    Some(say(
+        rt,
+        format_args!("keystate {}", Shown(*keyed)),
+        &mut room.spelled,
+    ))
 }
 
 // The current keyed state stays as it is, and what is handed back is shown.
@@ -39,7 +52,11 @@ pub(crate) fn finish(
 ) -> Option<io::Result<()>> {
     let lent = line.bytes(1, &mut room.lent)?;
     let finished = keyed::finish(form_for(lent.len()), keyed, lent);
-    Some(println!(rt; "keyfinish {} {}", Shown(finished), Bytes(lent)))
+    Some(say(
+        rt,
+        format_args!("keyfinish {} {}", Shown(finished), Bytes(lent)),
+        &mut room.spelled,
+    ))
 }
 
 pub(crate) fn check(
@@ -50,5 +67,9 @@ pub(crate) fn check(
 ) -> Option<io::Result<()>> {
     let tag = line.bytes(1, &mut room.data)?;
     let compared = keyed::check(form_for(tag.len()), keyed, tag);
-    Some(println!(rt; "keycheck {}", Shown(compared)))
+    Some(say(
+        rt,
+        format_args!("keycheck {}", Shown(compared)),
+        &mut room.spelled,
+    ))
 }

@@ -1,5 +1,5 @@
 // The calls of the boot log: check and write.
-use crate::calls::Room;
+use crate::calls::{Room, say};
 use crate::line_words::Line;
 use crate::show::{Bytes, Shown};
 use std::io;
@@ -8,7 +8,11 @@ pub(crate) fn check(rt: &impl Print, line: Line<'_>, room: &mut Room) -> Option<
     let log = line.bytes(1, &mut room.data)?;
     let lent = line.bytes(2, &mut room.lent)?;
     let checked = bootlog::check(log, lent);
-    Some(println!(rt; "check {} {}", Shown(checked), Bytes(lent)))
+    Some(say(
+        rt,
+        format_args!("check {} {}", Shown(checked), Bytes(lent)),
+        &mut room.spelled,
+    ))
 }
 
 fn claims(line: Line<'_>, k: usize) -> Option<bool> {
@@ -26,5 +30,9 @@ pub(crate) fn write(rt: &impl Print, line: Line<'_>, room: &mut Room) -> Option<
     let claims = claims(line, 4)?;
     let lent = line.bytes(5, &mut room.lent)?;
     let written = logger::write(salt, registers, events, claims, lent);
-    Some(println!(rt; "write {} {}", Shown(written), Bytes(lent)))
+    Some(say(
+        rt,
+        format_args!("write {} {}", Shown(written), Bytes(lent)),
+        &mut room.spelled,
+    ))
 }

@@ -27,10 +27,9 @@ struct Chain([u32; 16]);
 
 impl fmt::Display for Chain {
     fn fmt<W: fmt::Write>(&self, f: &mut fmt::Formatter<W>) -> fmt::Result {
-        for word in self.0 {
-            write!(f, "{word:08x}")?;
-        }
-        Ok(())
+        let bytes = self.0.map(u32::to_be_bytes);
+        let spelled = Hex(bytes.as_flattened());
+        write!(f, "{spelled}")
     }
 }
 
@@ -65,7 +64,7 @@ impl fmt::Display for Shown<Keyed> {
 
 impl fmt::Display for Shown<Result<(), Refusal>> {
     fn fmt<W: fmt::Write>(&self, f: &mut fmt::Formatter<W>) -> fmt::Result {
-        write!(f, "{}", answers::number(self.0))
+        write!(f, "{}", answers::answer_number(self.0))
     }
 }
 
@@ -73,7 +72,7 @@ impl fmt::Display for Shown<Result<(), Refusal>> {
 impl fmt::Display for Shown<Result<Length, Refusal>> {
     fn fmt<W: fmt::Write>(&self, f: &mut fmt::Formatter<W>) -> fmt::Result {
         let covered = tag_answers::covered(self.0);
-        write!(f, "{} {covered}", answers::number(self.0))
+        write!(f, "{} {covered}", tag_answers::number(self.0))
     }
 }
 
@@ -85,7 +84,7 @@ impl fmt::Display for Shown<Result<bool, Refusal>> {
         } else {
             "no"
         };
-        write!(f, "{} {said}", answers::number(self.0))
+        write!(f, "{} {said}", tag_answers::check_number(self.0))
     }
 }
 
@@ -95,7 +94,7 @@ impl fmt::Display for Shown<Result<Coverage, Refusal>> {
         let covered = reports::covered(self.0);
         let bits = reports::bits(self.0);
         let blocks = reports::blocks(self.0);
-        write!(f, "{} {covered} {bits} {blocks}", answers::number(self.0))
+        write!(f, "{} {covered} {bits} {blocks}", reports::number(self.0))
     }
 }
 
@@ -103,7 +102,7 @@ impl fmt::Display for Shown<Result<Coverage, Refusal>> {
 impl fmt::Display for Shown<Result<usize, Refusal>> {
     fn fmt<W: fmt::Write>(&self, f: &mut fmt::Formatter<W>) -> fmt::Result {
         let size = answers::length(self.0);
-        write!(f, "{} {size}", answers::number(self.0))
+        write!(f, "{} {size}", answers::written_number(self.0))
     }
 }
 

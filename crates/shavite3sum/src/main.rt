@@ -16,12 +16,17 @@ fn complain(rt: &HostRuntime, message: &str) -> io::Result<()> {
 // The digest is taken by `text::first`: that so many bytes are in the buffer stands in no clause of `digest_bytes`. So it is with what `hex` answers below.
 fn print_digest(rt: &HostRuntime, state: State) -> io::Result<()> {
     let mut bytes = [0u8; 64];
-    match digest::finish(form::TABLES, state, LastBits::none(), &mut bytes).answer {
-        Ok(coverage) => {
+    let report = digest::finish(form::TABLES, state, LastBits::none(), &mut bytes).answer;
+    match report {
+        Ok(_) => {
             let digest = Hex(text::first(&bytes, bits::digest_bytes(state.m)));
-            println!(rt; "{digest} {} {}", coverage.covered.0, coverage.blocks)
+            println!(rt;
+                "{digest} {} {}",
+                reports::covered(report),
+                reports::blocks(report)
+            )
         }
-        Err(refusal) => streaming::print_refusal(rt, refusal.number()),
+        Err(_) => streaming::print_refusal(rt, reports::number(report)),
     }
 }
 

@@ -1,16 +1,18 @@
 // What the programs share that digest standard input: all of it added to a running state, bytes spelled in hex, and the line of a refusal.
 #![tactic(auto)]
 
-ghost use Rattle.std.specs.Prelude.{◌≡◌, ℕ, List};
+ghost use Rattle.std.specs.Prelude.{◌≡◌, ◌≤◌, ℕ, List, Some, length};
 ghost use Rattle.answers.specs.declared.handed.Handed.{Handed};
 ghost use Rattle.digest.specs.Calls.{add_of};
 ghost use Rattle.keyed.specs.Calls.{key_add_of};
+ghost use Rattle.text.specs.Digits.{hex_of};
+ghost use Rattle.streaming.specs.declared.Stop.TheVariants.{Refused};
 
 use answers::{Handed, Refusal};
 use keyed_state::Keyed;
 use state::State;
 use std::io::Read;
-use std::{fmt, io};
+use std::{fmt, io, str};
 
 // A state that goes on with each part of a message.
 pub trait Running: Copy {
@@ -44,6 +46,8 @@ pub enum Stop {
 }
 
 impl From<Refusal> for Stop {
+    ghost from_gives = { λ refusal stop. stop ≡ Refused refusal };
+
     fn from(refusal: Refusal) -> Stop {
         Stop::Refused(refusal)
     }
@@ -72,14 +76,29 @@ pub fn add_all<S: Running>(
     Err(Stop::Failed)
 }
 
-// Bytes, two lower-case digits each.
+// Bytes, two lower-case digits each, as `text::put_hex` spells them.
 #[derive(Clone, Copy)]
 pub struct Hex<'a>(pub &'a [u8]);
 
+// How many bytes are spelled at once.
+const PART: usize = 64;
+
+// The digits of at most PART bytes, spelled in the buffer.
+fn spelled<'a>(part: &[u8], digits: &'a mut [u8; 2 * PART]) -> &'a str
+    requires { length part.now ≤ 64 }
+    ensures { result.now ≡ hex_of part.now }
+{
+    let size = text::put_hex(digits, 0, part);
+    str::from_utf8(text::first(digits, size)).unwrap_or("")
+}
+
 impl fmt::Display for Hex<'_> {
+    ghost output = { λ h. Some (hex_of h.0.now) };
+
     fn fmt<W: fmt::Write>(&self, f: &mut fmt::Formatter<W>) -> fmt::Result {
-        for byte in self.0 {
-            write!(f, "{byte:02x}")?;
+        let mut digits = [0u8; 2 * PART];
+        for part in self.0.chunks(PART) {
+            f.write_str(spelled(part, &mut digits))?;
         }
         Ok(())
     }

@@ -7,8 +7,9 @@ use native.Mathlib.Omega.{arith}
 use lib.Dec.{leb}
 use native.Mathlib.Numerals.{add-one}
 use Rattle.std.proofs.lemmas.List.{drop-set}
-use lib.ListN.{length, get_or, drop, set, drop_of_length-le}
-use lib.Seq.{sets, drop-cons}
+use lib.ListN.{length, get_or, take, drop, set, drop_of_length-le}
+use lib.Seq.{sets, drop-cons, sets-eq, take_at}
+use borrow.Author.Tests.{le-leb}
 use Rattle.text.specs.Place.{placed, place_after}
 use Rattle.text.specs.Digits.{digit, hex_in, hex_of, upper}
 
@@ -18,6 +19,13 @@ module _ (out : List ℕ) (at : ℕ) (xs : List ℕ) where
       → (at + length xs ≡ place_after (length out) at xs) × (sets out at xs ≡ placed out at xs)
   unfolding placed place_after
   place h = (rw h, rw h)
+
+-- the text that was put at the start of a buffer with room for it
+pub digits_there : (out xs : List ℕ) → length xs ≤ length out → take (place_after (length out) 0 xs) (placed out 0 xs) ≡ xs
+unfolding place_after placed
+digits_there out xs h =
+    let fits : 0 + length xs ≤ length out = omega (arith, h) in
+    rw (le-leb (0 + length xs) (length out) fits, sets-eq xs out 0 fits) (take_at xs (drop (0 + length xs) out) (0 + length xs) (omega arith))
 
 -- two digits a byte
 pub hex_length : (xs : List ℕ) → length (hex_of xs) ≡ 2 * length xs
