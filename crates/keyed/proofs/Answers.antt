@@ -1,5 +1,5 @@
 -- What the keyed calls answer: where a test decides, and where none does.
-use mathlib.Core.Path.{◌≡◌, ap, sym, refl, ◌∙◌}
+use mathlib.Core.Path.{◌≡◌, refl, ◌∙◌}
 use mathlib.Core.Bool.{Bool, true, false}
 use mathlib.Core.List.{List}
 use Prim.Native.Nat.{ℕ, ◌-◌, ◌%◌, ◌≤◌, ◌<◌}
@@ -52,24 +52,14 @@ module _ (m : ℕ) (K : List ℕ) where
 
 -- add
 module _ (k : Keyed) (xs : List ℕ) where
-  pub add_not : keyed_consistent k ≡ false → key_add_answer k xs ≡ Err StateInconsistent
-  unfolding key_add_answer
+  pub add_not : keyed_consistent k ≡ false → ◌≡◌ {A = Step} (record { answer = Err StateInconsistent; state = k }) (key_add_of k xs)
+  unfolding key_add_of key_add_answer
   add_not h = rw h
 
   -- past the keyed state's own test it is the digest's add
   pub add_answer_lem : keyed_consistent k ≡ true → key_add_answer k xs ≡ add_answer k.inner xs
   unfolding key_add_answer add_answer
   add_answer_lem ok = rw (ok, (keyed_sound k ok).inner)
-
-  pub add_passed : keyed_consistent k ≡ true → {r : digest.Step} → r ≡ add_of k.inner xs → key_add_answer k xs ≡ r.answer
-  unfolding add_of
-  add_passed ok e = add_answer_lem ok ∙ ap (λ (r : digest.Step). r.answer) (sym e)
-
-  pub add_made : {r : digest.Step} → r ≡ add_of k.inner xs → r.answer ≡ Ok tt → r.state ≡ absorbed k.inner xs
-  unfolding add_of
-  add_made {r} e h =
-      let accepted : add_answer k.inner xs ≡ Ok tt = sym (ap (λ (r : digest.Step). r.answer) e) ∙ h in
-      ap (λ (r : digest.Step). r.state) e ∙ rw accepted
 
   pub add_inner : keyed_consistent k ≡ true → {r : digest.Step} → r ≡ add_of k.inner xs
       → ◌≡◌ {A = Step} (record { answer = r.answer; state = record { inner = r.state; key = k.key } }) (key_add_of k xs)

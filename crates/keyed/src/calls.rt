@@ -1,9 +1,8 @@
 // Begin, add, finish and the tag check.
 ghost use Rattle.std.specs.Prelude.{◌≡◌, []};
 ghost use Rattle.answers.specs.Handed.{made_if};
-ghost use Rattle.digest.specs.Running.{absorbed};
 ghost use Rattle.keyed.specs.Running.{keyed_of};
-ghost use Rattle.keyed.specs.Calls.{key_begin_answer, key_begin_of, key_add_answer, key_add_of, key_finish_of, key_finish_buffer, key_check_of};
+ghost use Rattle.keyed.specs.Calls.{key_begin_answer, key_begin_of, key_add_of, key_finish_of, key_finish_buffer, key_check_of};
 
 use crate::hashing::Hash;
 use crate::{bytes, hashing};
@@ -46,26 +45,25 @@ pub fn begin(form: bool, m: u16, key: &[u8]) -> Step
     Handed::of(begun(form, m, key), keyed_state::zero_keyed())
 }
 
-// The tests of add, and the keyed state that has taken the bytes in. The inner state covers the key's block too, so its own limit is the one to keep.
-fn added(form: bool, keyed: Keyed, bytes: &[u8]) -> Result<Keyed, Refusal>
-    ensures { result ≡ made_if (key_add_answer keyed bytes.now) (record { inner = absorbed keyed.inner bytes.now; key = keyed.key }) }
-{
-    if !keyed_state::consistent(keyed) {
-        return Err(Refusal::StateInconsistent);
-    }
-    let step = digest::add(form, keyed.inner, bytes);
-    step.answer?;
-    Ok(Keyed {
-        inner: step.state,
-        ..keyed
-    })
-}
-
-// Adds bytes to the message.
+// Adds bytes to the message. The inner state covers the key's block too, so its own limit is the one to keep. What the digest's add hands back is put in its place at once: by a
+// `Result` of the keyed state and `Handed::of`, as begin goes, the states are copied twice more.
 pub fn add(form: bool, keyed: Keyed, bytes: &[u8]) -> Step
     ensures { result ≡ key_add_of keyed bytes.now }
 {
-    Handed::of(added(form, keyed, bytes), keyed)
+    if !keyed_state::consistent(keyed) {
+        return Handed {
+            answer: Err(Refusal::StateInconsistent),
+            state: keyed,
+        };
+    }
+    let step = digest::add(form, keyed.inner, bytes);
+    Handed {
+        answer: step.answer,
+        state: Keyed {
+            inner: step.state,
+            ..keyed
+        },
+    }
 }
 
 // The tests of finish, and the tag put to the buffer's front. Std has no `From` between usize and u64.
